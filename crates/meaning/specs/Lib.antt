@@ -9,4 +9,6 @@ pub mod EntryPoints
 pub mod RowOperations
 pub mod Processing
 pub mod CheckedRuns
+pub mod Trace
+pub mod Theorems
 pub mod Everything

@@ -1,0 +1,145 @@
+-- Every run ends in a known way: by cases of its outcome, by counting its considerations, and, unless it commits, by the round trip of
+-- the start image. Every run is refused or accepted, and what a call leaves is a function of what it was lent.
+use mathlib.Core.Path.{_≡_, refl, sym, ap, _∙_}
+use mathlib.Core.Logic.{_≢_}
+use mathlib.Core.List.{List}
+use mathlib.Core.Option.{Option, none, some}
+use Prim.Native.Nat.{ℕ, zero, suc, _+_, _≤_}
+use native.Mathlib.Omega.{arith}
+use Rattle.meaning.specs.Base.{maybe}
+use Rattle.meaning.specs.Reading.{readAll}
+use Rattle.meaning.specs.Covers.{Image, Book, Rule, LogOperation, Outcome, Reason}
+use Rattle.meaning.specs.Covers.{commit, rolledBack, stepLimit, failed, noSuchRow, full, handlesUsedUp, sumOutOfRange}
+use Rattle.meaning.specs.ByteLayouts
+use Rattle.meaning.specs.ByteLayouts.{imageBytes}
+use Rattle.meaning.specs.RowOperations.{RowOperation}
+use Rattle.meaning.specs.Processing.{State, Ending, ended, afterEvents, firstTriggered, consider, moved, runLog, steps, afterLog}
+use Rattle.meaning.specs.Processing.{process}
+use Rattle.meaning.specs.Processing.Actions.{Result, went, ends, onward}
+use Rattle.meaning.specs.EntryPoints.{accepted, JudgedBook, refusedBook, acceptedBook, judgeBook, withBook, verdict}
+use Rattle.meaning.specs.EntryPoints.{imageMalformed, logMalformed, outcomeNumber, failureNumber, reasonNumber, handedBack, written}
+use Rattle.meaning.specs.Theorems.{Accepted, endingOf, Spoken, isRefused, isAccepted, EveryRun, Ends, Determined}
+use Rattle.meaning.proofs.RoundTrip.{round-trip}
+
+-- ---- Refused or accepted
+
+pub accepted-verdict : {image book log : List ℕ} (a : Accepted image book log) → verdict image book log ≡ accepted (a .start) (endingOf a)
+unfolding verdict withBook endingOf
+accepted-verdict a = rw (a .imageRead, a .bookJudged, a .logRead)
+
+pub every-run : EveryRun
+unfolding verdict withBook
+every-run image book log = onImage (readAll ByteLayouts.image image) refl
+  where
+    onLog : (start : Image) (b : Book) (order : List ℕ) → readAll ByteLayouts.image image ≡ some start
+        → judgeBook book ≡ acceptedBook b order → (r : Option (List LogOperation)) → readAll ByteLayouts.log log ≡ r → Spoken image book log
+    onLog start b order e f none g = isRefused logMalformed (rw (e, f, g))
+    onLog start b order e f (some operations) g =
+        let a : Accepted image book log = record {
+          start = start;
+          ruleBook = b;
+          order = order;
+          operations = operations;
+          imageRead = e;
+          bookJudged = f;
+          logRead = g;
+        } in
+        isAccepted a (accepted-verdict a)
+
+    onBook : (start : Image) → readAll ByteLayouts.image image ≡ some start → (j : JudgedBook) → judgeBook book ≡ j → Spoken image book log
+    onBook start e (refusedBook r) f = isRefused r (rw (e, f))
+    onBook start e (acceptedBook b order) f = onLog start b order e f (readAll ByteLayouts.log log) refl
+
+    onImage : (r : Option Image) → readAll ByteLayouts.image image ≡ r → Spoken image book log
+    onImage none e = isRefused imageMalformed (rw e)
+    onImage (some start) e = onBook start e (judgeBook book) refl
+
+-- ---- The count
+
+-- what holds of both ways on holds of the choice
+pub maybe-all : {A B : Type 0} (P : B → Type 0) (o : Option A) (other : B) (f : A → B) → P other → ((a : A) → P (f a)) → P (maybe o other f)
+maybe-all P none other f p q = p
+maybe-all P (some a) other f p q = q a
+
+pub onward-all : {B : Type 0} (P : B → Type 0) (r : Result) (f : List RowOperation → B) (g : Outcome → List RowOperation → B)
+    → ((new : List RowOperation) → P (f new)) → ((o : Outcome) (new : List RowOperation) → P (g o new)) → P (onward r f g)
+unfolding onward
+onward-all P (went new) f g p q = p new
+onward-all P (ends o new) f g p q = q o new
+
+module _ (rules : List Rule) (order : List ℕ) where
+  pub steps-count : (left count : ℕ) (s : State) → steps rules order left count s .count ≤ count + left
+  unfolding steps ended afterEvents
+  steps-count zero count s =
+      maybe-all (λ (e : Ending). e .count ≤ count + zero) (firstTriggered rules order s) _ _ (omega arith) (λ k. omega arith)
+  steps-count (suc left) count s =
+      maybe-all (λ (e : Ending). e .count ≤ count + suc left) (firstTriggered rules order s) _ _ (omega arith)
+      (λ k. onward-all (λ (e : Ending). e .count ≤ count + suc left) (consider rules s k) _ _
+      (λ new. omega (arith, steps-count left (suc count) (moved rules s k new)))
+      (λ o new. omega arith))
+
+  pub process-count : (limit : ℕ) (log : List LogOperation) (start : Image) → process rules order limit log start .count ≤ limit
+  unfolding process ended afterEvents
+  process-count limit log start =
+      onward-all (λ (e : Ending). e .count ≤ limit) (runLog log start) _ _
+      (λ new. omega (arith, steps-count limit 0 (afterLog rules order start new)))
+      (λ o new. omega arith)
+
+-- ---- The outcome
+
+known-outcome : (o : Outcome) → outcomeNumber o ≤ 3
+unfolding outcomeNumber
+known-outcome commit = omega arith
+known-outcome rolledBack = omega arith
+known-outcome stepLimit = omega arith
+known-outcome (failed r) = omega arith
+
+no-reason : (o : Outcome) → outcomeNumber o ≢ 3 → reasonNumber o ≡ 0
+unfolding outcomeNumber reasonNumber
+no-reason commit n = refl
+no-reason rolledBack n = refl
+no-reason stepLimit n = refl
+no-reason (failed r) n = absurd (n refl)
+
+some-failure : (r : Reason) → failureNumber r ≢ 0
+unfolding failureNumber
+some-failure noSuchRow e = omega arith
+some-failure full e = omega arith
+some-failure handlesUsedUp e = omega arith
+some-failure sumOutOfRange e = omega arith
+
+some-reason : (o : Outcome) → outcomeNumber o ≡ 3 → reasonNumber o ≢ 0
+unfolding outcomeNumber reasonNumber
+some-reason commit e = absurd (omega arith)
+some-reason rolledBack e = absurd (omega arith)
+some-reason stepLimit e = absurd (omega arith)
+some-reason (failed r) e = some-failure r
+
+-- ---- What is handed back
+
+pub handed-start : (o : Outcome) (start end : Image) → outcomeNumber o ≢ 0 → handedBack o start end ≡ start
+unfolding outcomeNumber handedBack
+handed-start commit start end n = absurd (n refl)
+handed-start rolledBack start end n = refl
+handed-start stepLimit start end n = refl
+handed-start (failed r) start end n = refl
+
+pub every-ends : {image book log : List ℕ} (a : Accepted image book log) → Ends a
+unfolding written endingOf
+every-ends {image} {book} {log} a = record {
+  known = known-outcome (endingOf a .outcome);
+  counted = process-count (a .ruleBook .rules) (a .order) (a .ruleBook .limit) (a .operations) (a .start);
+  reasonless = no-reason (endingOf a .outcome);
+  reasoned = some-reason (endingOf a .outcome);
+  unchanged = λ n. ap written (accepted-verdict a) ∙ ap imageBytes (handed-start (endingOf a .outcome) (a .start) (endingOf a .image) n)
+      ∙ round-trip image (a .start) (a .imageRead);
+}
+
+-- ---- Determined
+
+pub determined : Determined
+determined = record {
+  ofRun = λ image book log output room one other p q. p ∙ sym q;
+  ofCheck = λ book output one other p q. p ∙ sym q;
+  ofRule = λ book k one other p q. p ∙ sym q;
+}

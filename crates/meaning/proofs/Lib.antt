@@ -1,0 +1,25 @@
+-- Why the statements of specs/Theorems.antt are true. Nobody needs to read on to believe them.
+pub mod Made
+pub mod Members
+pub mod Orders
+pub mod Cycles
+pub mod Parsing
+pub mod RoundTrip
+pub mod WrittenRead
+pub mod Lookups
+pub mod Masks
+pub mod JoinTable
+pub mod NetEffects
+pub mod Lives
+pub mod Capacity
+pub mod FitsImages
+pub mod FitsActions
+pub mod FitsRun
+pub mod Fits
+pub mod Traces
+pub mod Given
+pub mod Counts
+pub mod Quiet
+pub mod Joined
+pub mod Ends
+pub mod Theorems

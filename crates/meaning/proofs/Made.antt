@@ -1,0 +1,46 @@
+-- Operations that fit an image, one after another: what every stretch of a run is made of, and what its laws need to know of it.
+use mathlib.Core.Path.{_≡_}
+use mathlib.Core.List.{List, [], _∷_}
+use mathlib.Core.Option.{Option, some}
+use Prim.Native.Nat.{ℕ, suc, _≤_, _<_}
+use lib.IntN.{ℤ}
+use lib.Signed.{mag}
+use lib.ListN.{length}
+use Rattle.meaning.specs.Covers.{mostRows, lastHandle, Row, Image}
+use Rattle.meaning.specs.RowOperations.{RowOperation, inserts, deletes, updates, rowAt, make}
+use Rattle.meaning.specs.Trace.{OnlyIn}
+
+-- each value is a signed 32-bit number
+pub data InRange : List ℤ → Type 0 where
+  noValue : InRange []
+  oneMore : {v : ℤ} {vs : List ℤ} → mag v ≤ 2147483647 → InRange vs → InRange (v ∷ vs)
+
+-- a table 0..3 and four values
+pub record Proper (r : Row) : Type 0 where
+  pub tableFits : r .table ≤ 3
+  pub four : length (r .values) ≡ 4
+  pub inRange : InRange (r .values)
+
+-- proper rows by rising handle, above `low` and below `high`
+pub data Rising (high : ℕ) : ℕ → List Row → Type 0 where
+  noRow : {low : ℕ} → Rising high low []
+  above : {low : ℕ} {r : Row} {rs : List Row} → low < r .handle → r .handle < high → Proper r → Rising high (r .handle) rs → Rising high low (r ∷ rs)
+
+-- an image that a parser accepts
+pub record Sound (m : Image) : Type 0 where
+  pub someNext : 1 ≤ m .next
+  pub nextFits : m .next ≤ lastHandle
+  pub rowsFit : length (m .rows) ≤ mostRows
+  pub rises : Rising (m .next) 0 (m .rows)
+
+-- an operation that may be made on an image
+pub data Fits (m : Image) : RowOperation → Type 0 where
+  insertFits : {r : Row} → r .handle ≡ m .next → Proper r → length (m .rows) < mostRows → m .next < lastHandle → Fits m (inserts r)
+  deleteFits : {r : Row} → rowAt (r .handle) (m .rows) ≡ some r → Fits m (deletes r)
+  updateFits : {mask : ℕ} {old new : Row} → rowAt (old .handle) (m .rows) ≡ some old → OnlyIn mask old new → Proper new
+      → Fits m (updates mask old new)
+
+-- operations that may be made on an image one after another
+pub data Made : Image → List RowOperation → Type 0 where
+  none : {m : Image} → Made m []
+  more : {m : Image} {o : RowOperation} {os : List RowOperation} → Fits m o → Made (make o m) os → Made m (o ∷ os)

@@ -1,0 +1,134 @@
+-- Each statement of specs/Theorems.antt, proved, under its name.
+use mathlib.Core.Path.{_≡_, refl, sym, ap, _∙_}
+use mathlib.Core.List.{List, _∷_, _++_}
+use mathlib.Core.Option.{some}
+use Prim.Native.Nat.{ℕ}
+use native.Mathlib.Omega.{arith}
+use Rattle.meaning.specs.Reading.{readAll}
+use Rattle.meaning.specs.Covers.{Image, commit}
+use Rattle.meaning.specs.ByteLayouts
+use Rattle.meaning.specs.ByteLayouts.{imageBytes}
+use Rattle.meaning.specs.RowOperations.{RowOperation, inserts, rowAt, makeAll, net}
+use Rattle.meaning.specs.Processing.{Event, made}
+use Rattle.meaning.specs.EntryPoints.{handedBack, verdict, written}
+use Rattle.meaning.specs.Trace.{operationsIn, sinceLast, Differs}
+use Rattle.meaning.specs.Theorems.{Accepted, endingOf}
+use Rattle.meaning.specs.Theorems as Stated
+use Rattle.meaning.proofs.Made.{Sound, Made}
+use Rattle.meaning.proofs.FitsImages.{makeAll-sound}
+use Rattle.meaning.proofs.Lookups.{all-next-rises, given-fresh, given-once}
+use Rattle.meaning.proofs.WrittenRead.{rises-true, written-read}
+use Rattle.meaning.proofs.Lives.{net-outside, differs}
+use Rattle.meaning.proofs.Capacity.{capacity}
+use Rattle.meaning.proofs.Traces.{operations-append, untilLast}
+use Rattle.meaning.proofs.Fits.{run-sound, run-made, run-replayed}
+use Rattle.meaning.proofs.Joined.{made-at, sound-since, made-since}
+use Rattle.meaning.proofs.Ends as Ends
+use Rattle.meaning.proofs.Given as Given
+use Rattle.meaning.proofs.Joined as Joined
+use Rattle.meaning.proofs.Quiet as Quiet
+use Rattle.meaning.proofs.RoundTrip as RoundTrip
+use Rattle.meaning.proofs.NetEffects as NetEffects
+use Rattle.meaning.proofs.Orders as Orders
+use Rattle.meaning.proofs.Cycles as Cycles
+use Rattle.meaning.proofs.JoinTable as JoinTable
+
+pub every-run : Stated.EveryRun
+every-run = Ends.every-run
+
+module _ {image book log : List ℕ} (a : Accepted image book log) where
+  end-sound : Sound (endingOf a .image)
+  end-sound = rw (run-replayed a) (makeAll-sound (run-sound a) (run-made a))
+
+  -- ---- 1. Ends
+
+  pub ends : Stated.Ends a
+  ends = Ends.every-ends a
+
+  -- ---- 2. Runs chain
+
+  hands-end : endingOf a .outcome ≡ commit → written (verdict image book log) ≡ imageBytes (endingOf a .image)
+  unfolding written handedBack
+  hands-end q = ap written (Ends.accepted-verdict a) ∙ rw q
+
+  pub chains : Stated.Chains a
+  chains =
+      record {
+        reads = λ q. rw (hands-end q) (written-read end-sound);
+        rises = rises-true (end-sound .rises);
+        fits = end-sound .rowsFit;
+        onward = rw (run-replayed a) (all-next-rises (run-made a));
+      }
+
+  -- ---- 3. Given
+
+  pub given : Stated.Given a
+  given = Given.given a
+
+  -- ---- 4. Joined
+
+  pub joined : Stated.Joined a
+  joined = Joined.joined a
+
+  -- ---- 5. From outside
+
+  pub from-outside : Stated.FromOutside a
+  from-outside = record { told = λ before after q h. net-outside (run-sound a) (made-at a before after q) h; replayed = run-replayed a }
+
+  -- ---- 6. Commit
+
+  pub commits : Stated.Commits a
+  commits = record { quiet = Quiet.quiet a; rows = λ h. rw (run-replayed a) (differs (run-sound a) (run-made a) h) }
+
+  -- ---- 8. No run meets a marked join
+
+  pub reachable : Stated.Reachable a
+  reachable = Joined.reaches a
+
+  -- ---- 9. Sizes
+
+  operations-at : (before after : List Event) → endingOf a .trace ≡ before ++ after
+      → Made (a .start) (operationsIn before ++ operationsIn after)
+  operations-at before after q = rw (← operations-append before after, ← q) (run-made a)
+
+  pub sizes : Stated.Sizes a
+  unfolding operationsIn
+  sizes =
+      record {
+        live = λ before after q. makeAll-sound (run-sound a) (made-at a before after q) .rowsFit;
+        waiting = λ before after q k.
+            let s = sound-since a before after q k in
+            let d = made-since a before after q k in
+            omega (arith, capacity s d, s .rowsFit, makeAll-sound s d .rowsFit);
+        fresh = λ before after r q. given-fresh (operationsIn before) r (operationsIn after) (operations-at before (made (inserts r) ∷ after) q);
+        once = λ before between after r s q.
+            given-once {m = a .start} (operationsIn before) r (operationsIn between) s (operationsIn after)
+            (rw (← operations-append before (made (inserts r) ∷ between))
+            (operations-at (before ++ (made (inserts r) ∷ between)) (made (inserts s) ∷ after) q));
+      }
+
+-- ---- 2. Round trip
+
+pub round-trip : Stated.RoundTrip
+round-trip = RoundTrip.round-trip
+
+pub says-net : Stated.SaysNet
+says-net = NetEffects.says-net
+
+-- ---- 7. Order
+
+pub total-order : Stated.TotalOrder
+total-order = Orders.total-order
+
+pub cycles : Stated.Cycles
+cycles = Cycles.cycles
+
+-- ---- 8. The join table
+
+pub join-table : Stated.JoinTable
+join-table = JoinTable.join-table
+
+-- ---- 10. Determined
+
+pub determined : Stated.Determined
+determined = Ends.determined
