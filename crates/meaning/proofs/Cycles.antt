@@ -1,6 +1,5 @@
--- A book is refused for its order exactly when a rule leads to itself (theorem 7). Where no rule is ready, each rule not taken has a
--- predecessor not taken, and a way back along these meets some rule again, as rules are few. In an order, what leads to a rule stands
--- before it.
+-- A book is refused for its order exactly when a rule leads to itself: where no rule is ready, each rule not taken has a predecessor not
+-- taken, and the way back along these meets some rule again, as rules are few. In an order, what leads to a rule stands before it.
 use mathlib.Core.Path.{_≡_, refl}
 use mathlib.Core.Bool.{Bool, true, false}
 use mathlib.Core.List.{List, [], _∷_, _++_, append-assoc}
@@ -18,10 +17,10 @@ use Rattle.meaning.specs.ByteLayouts
 use Rattle.meaning.specs.Processing.TotalOrder.{numbers, precedesRule, ready, orderOf, totalOrder}
 use Rattle.meaning.specs.EntryPoints.{refusedBook, acceptedBook, judgeBook, bookMalformed, precedesCycle}
 use Rattle.meaning.specs.Theorems.{Leads, straight, through, precedesOf, Cycles}
-use Rattle.meaning.proofs.Members.{true-is-false, or-cases, any-front, first-none, has, eqb-self, has-split, has-none}
-use Rattle.meaning.proofs.Members.{Distinct, noNumber, another, at-most, one-missing}
-use Rattle.meaning.proofs.Orders.{is-rule, number-has, blocked, InTurn, turn-new, turn-after, Taking, stuck}
-use Rattle.meaning.proofs.Orders.{order-taking, order-in-turn, order-all}
+use Rattle.meaning.proofs.Lists.{true-is-false, or-cases, any-front, first-none, has, eqb-self, has-split, has-none, Distinct}
+use Rattle.meaning.proofs.Lists.{noNumber, another, at-most, one-missing}
+use Rattle.meaning.proofs.Orders.{is-rule, number-has, blocked, InTurn, turn-new, turn-after, Taking, stuck, order-taking}
+use Rattle.meaning.proofs.Orders.{order-in-turn, order-all}
 
 module _ (precedes : List ℕ) where
   -- ---- Where no rule is ready, a rule leads to itself

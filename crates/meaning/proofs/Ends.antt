@@ -4,22 +4,20 @@ use mathlib.Core.Path.{_≡_, refl, sym, ap, _∙_}
 use mathlib.Core.Logic.{_≢_}
 use mathlib.Core.List.{List}
 use mathlib.Core.Option.{Option, none, some}
-use Prim.Native.Nat.{ℕ, zero, suc, _+_, _≤_}
+use Prim.Native.Nat.{ℕ, _+_, _≤_}
 use native.Mathlib.Omega.{arith}
-use Rattle.meaning.specs.Base.{maybe}
 use Rattle.meaning.specs.Reading.{readAll}
-use Rattle.meaning.specs.Covers.{Image, Book, Rule, LogOperation, Outcome, Reason}
-use Rattle.meaning.specs.Covers.{commit, rolledBack, stepLimit, failed, noSuchRow, full, handlesUsedUp, sumOutOfRange}
+use Rattle.meaning.specs.Covers.{Image, Book, Rule, LogOperation, Outcome, Reason, commit, rolledBack, stepLimit, failed, noSuchRow}
+use Rattle.meaning.specs.Covers.{full, handlesUsedUp, sumOutOfRange}
 use Rattle.meaning.specs.ByteLayouts
 use Rattle.meaning.specs.ByteLayouts.{imageBytes}
-use Rattle.meaning.specs.RowOperations.{RowOperation}
-use Rattle.meaning.specs.Processing.{State, Ending, ended, afterEvents, firstTriggered, consider, moved, runLog, steps, afterLog}
-use Rattle.meaning.specs.Processing.{process}
-use Rattle.meaning.specs.Processing.Actions.{Result, went, ends, onward}
-use Rattle.meaning.specs.EntryPoints.{accepted, JudgedBook, refusedBook, acceptedBook, judgeBook, withBook, verdict}
-use Rattle.meaning.specs.EntryPoints.{imageMalformed, logMalformed, outcomeNumber, failureNumber, reasonNumber, handedBack, written}
+use Rattle.meaning.specs.Processing.{State, Ending, ended, afterEvents}
+use Rattle.meaning.specs.EntryPoints.{accepted, JudgedBook, refusedBook, acceptedBook, judgeBook, withBook, verdict, imageMalformed}
+use Rattle.meaning.specs.EntryPoints.{logMalformed, outcomeNumber, failureNumber, reasonNumber, handedBack, written}
 use Rattle.meaning.specs.Theorems.{Accepted, endingOf, Spoken, isRefused, isAccepted, EveryRun, Ends, Determined}
 use Rattle.meaning.proofs.RoundTrip.{round-trip}
+use Rattle.meaning.proofs.Traces.{Steps, commits, meetsLimit, endsRun, goesOn, Runs, logEnds, logDone}
+use Rattle.meaning.proofs.RunsFit.{run-steps}
 
 -- ---- Refused or accepted
 
@@ -56,34 +54,19 @@ every-run image book log = onImage (readAll ByteLayouts.image image) refl
 
 -- ---- The count
 
--- what holds of both ways on holds of the choice
-pub maybe-all : {A B : Type 0} (P : B → Type 0) (o : Option A) (other : B) (f : A → B) → P other → ((a : A) → P (f a)) → P (maybe o other f)
-maybe-all P none other f p q = p
-maybe-all P (some a) other f p q = q a
-
-pub onward-all : {B : Type 0} (P : B → Type 0) (r : Result) (f : List RowOperation → B) (g : Outcome → List RowOperation → B)
-    → ((new : List RowOperation) → P (f new)) → ((o : Outcome) (new : List RowOperation) → P (g o new)) → P (onward r f g)
-unfolding onward
-onward-all P (went new) f g p q = p new
-onward-all P (ends o new) f g p q = q o new
-
 module _ (rules : List Rule) (order : List ℕ) where
-  pub steps-count : (left count : ℕ) (s : State) → steps rules order left count s .count ≤ count + left
-  unfolding steps ended afterEvents
-  steps-count zero count s =
-      maybe-all (λ (e : Ending). e .count ≤ count + zero) (firstTriggered rules order s) _ _ (omega arith) (λ k. omega arith)
-  steps-count (suc left) count s =
-      maybe-all (λ (e : Ending). e .count ≤ count + suc left) (firstTriggered rules order s) _ _ (omega arith)
-      (λ k. onward-all (λ (e : Ending). e .count ≤ count + suc left) (consider rules s k) _ _
-      (λ new. omega (arith, steps-count left (suc count) (moved rules s k new)))
-      (λ o new. omega arith))
+  -- each step spends one consideration
+  steps-count : {left count : ℕ} {s : State} {e : Ending} → Steps rules order left count s e → e .count ≤ count + left
+  unfolding ended afterEvents
+  steps-count (commits t) = omega arith
+  steps-count (meetsLimit t) = omega arith
+  steps-count (endsRun t c) = omega arith
+  steps-count (goesOn t c more) = omega (arith, steps-count more)
 
-  pub process-count : (limit : ℕ) (log : List LogOperation) (start : Image) → process rules order limit log start .count ≤ limit
-  unfolding process ended afterEvents
-  process-count limit log start =
-      onward-all (λ (e : Ending). e .count ≤ limit) (runLog log start) _ _
-      (λ new. omega (arith, steps-count limit 0 (afterLog rules order start new)))
-      (λ o new. omega arith)
+  runs-count : {limit : ℕ} {log : List LogOperation} {start : Image} {e : Ending} → Runs rules order limit log start e → e .count ≤ limit
+  unfolding ended afterEvents
+  runs-count (logEnds l) = omega arith
+  runs-count (logDone l more) = omega (arith, steps-count more)
 
 -- ---- The outcome
 
@@ -125,10 +108,10 @@ handed-start stepLimit start end n = refl
 handed-start (failed r) start end n = refl
 
 pub every-ends : {image book log : List ℕ} (a : Accepted image book log) → Ends a
-unfolding written endingOf
+unfolding written
 every-ends {image} {book} {log} a = record {
   known = known-outcome (endingOf a .outcome);
-  counted = process-count (a .ruleBook .rules) (a .order) (a .ruleBook .limit) (a .operations) (a .start);
+  counted = runs-count (a .ruleBook .rules) (a .order) (run-steps a);
   reasonless = no-reason (endingOf a .outcome);
   reasoned = some-reason (endingOf a .outcome);
   unchanged = λ n. ap written (accepted-verdict a) ∙ ap imageBytes (handed-start (endingOf a .outcome) (a .start) (endingOf a .image) n)

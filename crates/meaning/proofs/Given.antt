@@ -10,7 +10,7 @@ use lib.Dec.{eqb}
 use lib.ListN.{length, getD, getElem?, drop, set, replicate, length-append, length-set, length-replicate}
 use lib.Seq.{append-snoc, drop-append-le, drop-append-seam, getD-set-same, getD-set-other}
 use borrow.Author.Tests.{eqb-true, eqb-false}
-use Rattle.meaning.specs.Base.{any, firstWith}
+use Rattle.meaning.specs.Base.{any}
 use Rattle.meaning.specs.Covers.{Image, Rule, LogOperation}
 use Rattle.meaning.specs.RowOperations.{RowOperation, NetEffect, netEffect}
 use Rattle.meaning.specs.Processing.{State, Event, made, considered, Ending, ended, afterEvents, since, waits, triggered, moved}
@@ -18,24 +18,12 @@ use Rattle.meaning.specs.Processing.{consideration, firstTriggered, afte
 use Rattle.meaning.specs.Processing.TransitionTables.{wakes}
 use Rattle.meaning.specs.Trace.{sinceOn, sinceLast}
 use Rattle.meaning.specs.Theorems.{Accepted, endingOf, Given}
-use Rattle.meaning.proofs.Traces.{Along, stop, next, along-append, along-at, last-made, last-considered, last-other}
-use Rattle.meaning.proofs.Traces.{Steps, commits, meetsLimit, endsRun, goesOn, Runs, logEnds, logDone, runs}
+use Rattle.meaning.proofs.Lists.{there-below, first-is}
+use Rattle.meaning.proofs.Traces.{Along, stop, next, along-append, along-at, last-made, last-considered, last-other, Steps, commits}
+use Rattle.meaning.proofs.Traces.{meetsLimit, endsRun, goesOn, Runs, logEnds, logDone}
+use Rattle.meaning.proofs.RunsFit.{run-steps}
 
--- ---- General tools
-
-pub first-holds : {A : Type 0} (p : A → Bool) (xs : List A) (x : A) → firstWith p xs ≡ some x → p x ≡ true
-first-holds p [] x q = absurd (let z : _≡_ {A = ℕ} 0 1 = cc in omega arith)
-first-holds {A} p (y ∷ ys) x q = go (p y) refl (first-holds p ys x)
-  where
-    go : (b : Bool) → p y ≡ b → (firstWith p ys ≡ some x → p x ≡ true) → p x ≡ true
-    go true e ih = let q′ : _≡_ {A = Option A} (some y) (some x) = rw e at q in let f : y ≡ x = cc in ap p (sym f) ∙ e
-    go false e ih = ih (rw e at q)
-
-pub there-below : {A : Type 0} (xs : List A) (k : ℕ) (x : A) → getElem? xs k ≡ some x → k < length xs
-there-below [] k x q = absurd (let z : _≡_ {A = ℕ} 0 1 = cc in omega arith)
-there-below (y ∷ ys) zero x q = omega arith
-there-below (y ∷ ys) (suc k) x q = let h = there-below ys k x q in omega arith
-
+-- no rule has a mark above the start
 zeros : (n k : ℕ) → _≡_ {A = ℕ} (getD (replicate n 0) k 0) 0
 zeros zero k = refl
 zeros (suc n) zero = refl
@@ -123,7 +111,7 @@ module _ (rules : List Rule) where
   module _ (order : List ℕ) where
     pub first-in-force : (s : State) {k : ℕ} → firstTriggered rules order s ≡ some k → InForce k
     unfolding firstTriggered
-    first-in-force s {k} t = triggered-in-force s k (first-holds (triggered rules s) order k t)
+    first-in-force s {k} t = triggered-in-force s k (first-is (triggered rules s) order k t .passes)
 
     pub follows-log : (start : Image) (new : List RowOperation) → Follows (map made new) (afterLog rules order start new)
     unfolding afterLog since sinceLast sinceOn
@@ -162,9 +150,7 @@ module _ (rules : List Rule) where
 
 module _ {image book log : List ℕ} (a : Accepted image book log) where
   pub given-along : Along (GivenAt (a .ruleBook .rules)) [] (endingOf a .trace)
-  unfolding endingOf
-  given-along =
-      given-runs (a .ruleBook .rules) (a .order) (runs (a .ruleBook .rules) (a .order) (a .ruleBook .limit) (a .operations) (a .start))
+  given-along = given-runs (a .ruleBook .rules) (a .order) (run-steps a)
 
   given-at : (before after : List Event) (e : Event) → endingOf a .trace ≡ before ++ (e ∷ after) → GivenAt (a .ruleBook .rules) before e
   given-at before after e q = along-at before after e (rw q at given-along)

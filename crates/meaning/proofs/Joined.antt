@@ -14,18 +14,12 @@ use Rattle.meaning.specs.Trace.{operationsIn, sinceLast, givenTo, joined
 use Rattle.meaning.specs.Theorems.{Accepted, endingOf, Joined, Reachable}
 use Rattle.meaning.proofs.Made.{Sound, Made}
 use Rattle.meaning.proofs.Lookups.{made-front, made-back}
-use Rattle.meaning.proofs.FitsImages.{makeAll-sound}
 use Rattle.meaning.proofs.NetEffects.{says-net}
 use Rattle.meaning.proofs.Lives.{net-append, never-marked, never-marked-stretch}
-use Rattle.meaning.proofs.Traces.{Along, stop, next, along-front, operations-append, untilOn, untilLast, until-last}
-use Rattle.meaning.proofs.Traces.{until-made, until-considered, until-other, given-append, joined-append}
+use Rattle.meaning.proofs.Traces.{Along, stop, next, along-front, operations-append, untilOn, untilLast, until-last, until-made}
+use Rattle.meaning.proofs.Traces.{until-considered, until-other, given-append, joinedIn-append}
 use Rattle.meaning.proofs.Given.{GivenAt, isMade, isGiven, given-along}
-use Rattle.meaning.proofs.Fits.{run-sound, run-made}
-
--- ---- The operations up to a point of a trace
-
-pub made-before : {m : Image} (es fs : List Event) → Made m (operationsIn (es ++ fs)) → Made m (operationsIn es)
-made-before es fs d = made-front (operationsIn es) (operationsIn fs) (rw operations-append at d)
+use Rattle.meaning.proofs.RunsFit.{run-sound, made-around, made-at, made-stretches, sound-since}
 
 -- ---- Joined
 
@@ -51,7 +45,7 @@ module _ {m : Image} (sound : Sound m) (rules : List Rule) (k h : ℕ) where
           let same : i ≡ k = eqb-true i k q in
           let waited : effectAt h g ≡ net h (sinceLast k past) =
           ap (effectAt h) e ∙ says-net h (sinceLast i past) ∙ ap (λ (n : ℕ). net h (sinceLast n past)) same in
-          rw (given-append k past (considered i g ∷ []), q, joined-append h nothing (givenTo k past) (g ∷ []), j, waited)
+          rw (given-append k past (considered i g ∷ []), q, joinedIn-append h nothing (givenTo k past) (g ∷ []), j, waited)
           (rw (until-considered k past i g q) (joined-all past d))
       go false q = rw (given-append k past (considered i g ∷ []), q, append-nil, until-other k past i g q) j
 
@@ -60,60 +54,47 @@ module _ {m : Image} (sound : Sound m) (rules : List Rule) (k h : ℕ) where
   joined-along {past} stop d j = rw append-nil j
   joined-along {past} (next {es = es} {e = e} p a) d j =
       let d′ : Made m (operationsIn (past ++ (e ∷ []) ++ es)) = rw (append-snoc past e es) d in
-      rw (← append-snoc past e es) (joined-along a d′ (joined-step p (made-before past (e ∷ es) d) j))
+      let d″ = made-front (operationsIn past) (operationsIn (e ∷ es)) (rw operations-append at d) in
+      rw (← append-snoc past e es) (joined-along a d′ (joined-step p d″ j))
 
   pub joined-until : (es : List Event) → Along (GivenAt rules) [] es → Made m (operationsIn es)
       → joinedIn h nothing (givenTo k es) ≡ net h (untilLast k es)
   unfolding givenTo joinedIn untilOn untilLast net joinedOn
   joined-until es a d = joined-along a d refl
 
--- ---- The points of a run
+-- ---- The statements
 
 module _ {image book log : List ℕ} (a : Accepted image book log) where
-  pub made-at : (before after : List Event) → endingOf a .trace ≡ before ++ after → Made (a .start) (operationsIn before)
-  made-at before after q = made-before before after (rw q at (run-made a))
-
-  -- the image at a rule's last consideration, and the operations since then
-  pub sound-since : (before after : List Event) → endingOf a .trace ≡ before ++ after → (k : ℕ) → Sound (makeAll (untilLast k before) (a .start))
-  sound-since before after q k =
-      makeAll-sound (run-sound a) (made-front (untilLast k before) (sinceLast k before) (rw (until-last k before) (made-at before after q)))
-
-  pub made-since : (before after : List Event) → endingOf a .trace ≡ before ++ after → (k : ℕ)
-      → Made (makeAll (untilLast k before) (a .start)) (sinceLast k before)
-  made-since before after q k = made-back (untilLast k before) (sinceLast k before) (rw (until-last k before) (made-at before after q))
-
   until-at : (before after : List Event) → endingOf a .trace ≡ before ++ after → (k h : ℕ)
       → joinedIn h nothing (givenTo k before) ≡ net h (untilLast k before)
   until-at before after q k h =
       let along = along-front before after (rw q at (given-along a)) in
-      joined-until (run-sound a) (a .ruleBook .rules) k h before along (made-at before after q)
+      joined-until (run-sound a) (a .ruleBook .rules) k h before along (made-at a before after q)
 
   pub joined : Joined a
   joined =
       record {
         whole = λ before after q k h.
-            rw (until-at before after q k h, says-net) (joined-all (run-sound a) (a .ruleBook .rules) k h before (made-at before after q));
+            rw (until-at before after q k h, says-net)
+            (joined-all (run-sound a) (a .ruleBook .rules) k h before (made-at a before after q));
       }
 
-  -- ---- No marked join
-
-  -- one operation more is made since then
+  -- one operation more is made on what was made since the last consideration
   made-more : (before after : List Event) (o : RowOperation) → endingOf a .trace ≡ before ++ (made o ∷ after) → (k : ℕ)
-      → Made (makeAll (untilLast k before) (a .start)) (sinceLast k before ++ (o ∷ []))
+      → Made (makeAll (untilLast k before) (a .start)) (sinceLast k before ++ (o ∷ operationsIn after))
   unfolding operationsIn
   made-more before after o q k =
-      let q′ : endingOf a .trace ≡ (before ++ (made o ∷ [])) ++ after = q ∙ sym (append-snoc before (made o) after) in
-      let d = rw (operations-append before (made o ∷ [])) at (made-at (before ++ (made o ∷ [])) after q′) in
-      made-back (untilLast k before) (sinceLast k before ++ (o ∷ []))
-      (rw (← append-assoc (untilLast k before) (sinceLast k before) (o ∷ []), until-last k before) d)
+      made-back (untilLast k before) (sinceLast k before ++ (o ∷ operationsIn after))
+      (rw (← append-assoc (untilLast k before) (sinceLast k before) (o ∷ operationsIn after), until-last k before)
+      (made-around a before (made o ∷ after) q))
 
   pub reaches : Reachable a
   reaches =
       record {
         single = λ before after o q k h.
-            never-marked (sinceLast k before) o [] (sound-since before (made o ∷ after) q k) (made-more before after o q k) h;
+            never-marked (sinceLast k before) o (operationsIn after) (sound-since a before (made o ∷ after) q k)
+            (made-more before after o q k) h;
         stretch = λ before after q k h.
             rw (until-at before after q k h)
-            (never-marked-stretch (untilLast k before) (sinceLast k before) (run-sound a)
-            (rw (until-last k before) (made-at before after q)) h);
+            (never-marked-stretch (untilLast k before) (sinceLast k before) (run-sound a) (made-stretches a before after q k) h);
       }

@@ -1,25 +1,32 @@
 -- Why the statements of specs/Theorems.antt are true. Nobody needs to read on to believe them.
+-- Tools
+pub mod Lists
+-- Images, and operations that fit them
 pub mod Made
-pub mod Members
-pub mod Orders
-pub mod Cycles
+pub mod Lookups
+pub mod Images
+-- Images as bytes (2)
 pub mod Parsing
 pub mod RoundTrip
 pub mod WrittenRead
-pub mod Lookups
+-- The total order (7)
+pub mod Orders
+pub mod Cycles
+-- Net effects of operations that fit (5, 8, 9)
 pub mod Masks
 pub mod JoinTable
 pub mod NetEffects
 pub mod Lives
 pub mod Capacity
-pub mod FitsImages
-pub mod FitsActions
-pub mod FitsRun
-pub mod Fits
+-- The operations of a run fit
 pub mod Traces
-pub mod Given
-pub mod Counts
-pub mod Quiet
-pub mod Joined
+pub mod ActionsFit
+pub mod StepsFit
+pub mod RunsFit
+-- Runs (1, 3, 4, 6)
 pub mod Ends
+pub mod Given
+pub mod Joined
+pub mod Quiet
+-- All statements
 pub mod Theorems

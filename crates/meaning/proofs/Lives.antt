@@ -11,21 +11,20 @@ use lib.Dec.{eqb, ltb}
 use lib.Bits.{bitOr}
 use borrow.Author.Tests.{eqb-true, ltb-true, ltb-false}
 use Rattle.meaning.specs.Covers.{Row, Image}
-use Rattle.meaning.specs.RowOperations.{RowOperation, inserts, deletes, updates, handleOf, rowAt, make, makeAll}
-use Rattle.meaning.specs.RowOperations.{Effect, nothing, inserted, deleted, updated, unreachable, kind, joinTable, joinKind, over}
-use Rattle.meaning.specs.RowOperations.{joinedAs, join}
+use Rattle.meaning.specs.RowOperations.{RowOperation, inserts, deletes, updates, handleOf, rowAt, make, makeAll, Effect, nothing}
+use Rattle.meaning.specs.RowOperations.{inserted, deleted, updated, unreachable, kind, joinTable, joinKind, over, joinedAs, join}
 use Rattle.meaning.specs.RowOperations.{effectOf, single, joinedOn, net}
 use Rattle.meaning.specs.Trace.{union, maskOn, masksOn, deletedIn, fromOutside, OnlyIn, Differs, stays, comes, goes, changes}
 use Rattle.meaning.specs.Theorems.{reachable}
-use Rattle.meaning.proofs.Made.{Sound, Fits, insertFits, deleteFits, updateFits, Made, more}
-use Rattle.meaning.proofs.Made.{Made.none as noneMade}
+use Rattle.meaning.proofs.Made.{Sound, Fits, insertFits, deleteFits, updateFits, Made, more, Made.none as noneMade}
+use Rattle.meaning.proofs.Lists.{clash, eqb-self}
 use Rattle.meaning.proofs.Masks.{or-assoc, bit-or}
 use Rattle.meaning.proofs.JoinTable.{join-nothing}
-use Rattle.meaning.proofs.NetEffects.{eqb-self, single-other, single-own, net-one}
-use Rattle.meaning.proofs.Lookups.{clash, live-below, rowAt-other, rowAt-inserted, rowAt-deleted, rowAt-updated, next-rises}
-use Rattle.meaning.proofs.Lookups.{next-other, made-front, made-back}
+use Rattle.meaning.proofs.NetEffects.{single-other, single-own, net-one}
+use Rattle.meaning.proofs.Lookups.{live-below, rowAt-other, rowAt-inserted, rowAt-deleted, rowAt-updated, next-rises, next-other}
+use Rattle.meaning.proofs.Lookups.{made-front, made-back}
 
--- ---- the life of a handle
+-- ---- The life of a handle
 
 -- not given yet, at a row, or gone from its last row
 data Life : Type 0 where
@@ -92,7 +91,7 @@ between-none notGiven = refl
 between-none (at r) = refl
 between-none (gone r) = refl
 
--- ---- masks
+-- ---- Masks
 
 union-assoc : (u v w : Option ℕ) → union (union u v) w ≡ union u (union v w)
 unfolding union
@@ -125,7 +124,7 @@ only-in-both {m} {n} p q = record {
   elsewhere = λ c b. let z = bit-or m n c b in q .elsewhere c (z .1) ∙ p .elsewhere c (z .0);
 }
 
--- ---- one operation of the handle moves the effect on
+-- ---- One operation of the handle moves the effect on
 
 born-step : {s : Life} {u : Option ℕ} (r : Row) → After s notGiven u
     → join (between s notGiven u) (inserted (r .table)) ≡ between s (at r) u
@@ -194,7 +193,7 @@ module _ {h : ℕ} {s e : Life} {os : List RowOperation} (l : Lives h s os e) wh
   unfolding net union
   net-between = ap (λ (w : Effect). joinedOn h w os) (sym (between-none s)) ∙ told (after-none s) l .effect
 
--- ---- two stretches
+-- ---- Two stretches
 
 record Joins (s t e : Life) (u v : Option ℕ) : Type 0 where
   whole : join (between s t u) (between t e v) ≡ between s e (union u v)
@@ -231,7 +230,7 @@ module _ {h : ℕ} {s t e : Life} {xs ys : List RowOperation} (l : Lives h s xs 
       not-unreachable (joinKind (kind (net h xs)) (kind (net h ys)))
       (rw (net-between l, net-between m) (joins (after l) (after m) .unmarked))
 
--- ---- the rows before and after
+-- ---- The rows before and after
 
 after-differs : {s e : Life} {u : Option ℕ} → After s e u → Differs (between s e u) (rowOf s) (rowOf e)
 unfolding all
@@ -267,7 +266,7 @@ between-outside (altered o) l = refl
 between-outside (left {r = r}) l = ap deleted (sym (last-row r l))
 between-outside ended l = refl
 
--- ---- a handle in an image
+-- ---- A handle in an image
 
 data At (h : ℕ) (m : Image) : Life → Type 0 where
   here : {r : Row} → rowAt h (m .rows) ≡ some r → h < m .next → At h m (at r)
@@ -348,7 +347,7 @@ leads (more f k) a =
     let all = leads k (one .there) in
     record { reached = all .reached; by = lives-append (one .by) (all .by); there = all .there }
 
--- ---- the laws, of operations that fit a sound image one after another
+-- ---- The laws, of operations that fit a sound image one after another
 
 -- the net effect of a stretch, told from outside
 pub net-outside : {m : Image} {os : List RowOperation} → Sound m → Made m os → (h : ℕ)

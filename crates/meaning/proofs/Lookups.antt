@@ -1,6 +1,6 @@
--- The row of a handle in an image: where it is found, and where an operation leaves it. An operation moves only the row of its own handle;
--- in a sound image each handle has one row at most, and none at or above the next handle.
-use mathlib.Core.Path.{_≡_, refl, sym, ap, _∙_}
+-- The row of a handle in an image: where it is found, and where an operation leaves it, for an operation moves only the row of its own
+-- handle. In a sound image each handle has one row at most and none from the next handle on, so inserts are given new handles, rising.
+use mathlib.Core.Path.{_≡_, refl, sym, ap, _∙_, subst}
 use mathlib.Core.Bool.{Bool, true, false}
 use mathlib.Core.List.{List, [], _∷_, _++_, append-assoc}
 use mathlib.Core.Option.{Option, none, some}
@@ -10,10 +10,11 @@ use lib.Dec.{eqb}
 use borrow.Author.Tests.{eqb-true, eqb-false, eq-eqb, ne-eqb}
 use Rattle.meaning.specs.Covers.{Row, Image}
 use Rattle.meaning.specs.RowOperations.{RowOperation, inserts, deletes, updates, handleOf, rowAt, without, withRow, make, makeAll}
+use Rattle.meaning.proofs.Lists.{clash, Each, noElement, anElement, eqb-self}
 use Rattle.meaning.proofs.Made.{Rising, noRow, above, Sound, Fits, insertFits, deleteFits, updateFits, Made, more}
 use Rattle.meaning.proofs.Made.{Made.none as noneMade}
 
--- ---- a lookup in a list with a head
+-- ---- A lookup in a list with a head
 
 pub data Look (h : ℕ) (x : Row) (xs : List Row) (o : Option Row) : Type 0 where
   head : x .handle ≡ h → o ≡ some x → Look h x xs o
@@ -39,10 +40,6 @@ pub rowAt-skip : (h : ℕ) (x : Row) (xs : List Row) → eqb (x .handle) h ≡ f
 unfolding rowAt
 rowAt-skip h x xs e = rw e
 
--- no lookup finds a row and none
-pub clash {ℓ} : {X : Type ℓ} {r : Row} {o : Option Row} → o ≡ none → o ≡ some r → X
-clash p q = absurd (let z : _≡_ {A = ℕ} 0 1 = cc in omega arith)
-
 -- the row that is found has the handle asked for
 pub found-handle : (h : ℕ) (r : Row) (rs : List Row) → rowAt h rs ≡ some r → r .handle ≡ h
 found-handle h r [] q = clash (rowAt-none h) q
@@ -52,7 +49,16 @@ found-handle h r (x ∷ xs) q = go (found-handle h r xs) (look h x xs (some r) q
     go ih (head e o) = let same : r ≡ x = cc in ap (λ (y : Row). y .handle) same ∙ e
     go ih (later e o) = ih o
 
--- ---- rows by rising handle
+-- what is so of each row is so of the row that is found
+pub found-so : {P : Row → Type 0} {rs : List Row} (h : ℕ) (r : Row) → Each P rs → rowAt h rs ≡ some r → P r
+found-so h r noElement q = clash (rowAt-none h) q
+found-so {P} h r (anElement {x = x} {xs = xs} a rest) q = go (found-so h r rest) (look h x xs (some r) q)
+  where
+    go : (rowAt h xs ≡ some r → P r) → Look h x xs (some r) → P r
+    go ih (head e o) = subst P (cc) a
+    go ih (later e o) = ih o
+
+-- ---- Rows by rising handle
 
 -- no row at or below low
 pub rowAt-low : {high low : ℕ} {rs : List Row} (h : ℕ) → Rising high low rs → h ≤ low → rowAt h rs ≡ none
@@ -79,7 +85,7 @@ live-below {high} h r (above {r = x} {rs = xs} a b p c) q = go (live-below h r c
     go ih (head e o) = omega arith
     go ih (later e o) = ih o
 
--- ---- in two lists, one after the other
+-- ---- In two lists, one after the other
 
 pub rowAt-front : (h : ℕ) (r : Row) (xs ys : List Row) → rowAt h xs ≡ some r → rowAt h (xs ++ ys) ≡ some r
 rowAt-front h r [] ys q = clash (rowAt-none h) q
@@ -105,7 +111,7 @@ rowAt-append-other h r xs e = go (rowAt h xs) refl
     go none q = rowAt-back h xs (r ∷ []) q ∙ rowAt-skip h r [] e ∙ rowAt-none h ∙ sym q
     go (some s) q = rowAt-front h s xs (r ∷ []) q ∙ sym q
 
--- ---- without a row
+-- ---- Without a row
 
 pub rowAt-without : (h k : ℕ) (rs : List Row) → eqb k h ≡ true → rowAt h (without k rs) ≡ none
 unfolding rowAt without
@@ -125,7 +131,7 @@ rowAt-without-other h k (x ∷ xs) e = go (eqb (x .handle) k) refl (rowAt-withou
     go true f ih = rw (f, ih) (sym (rowAt-skip h x xs (rw (eqb-true (x .handle) k f) e)))
     go false f ih = rw (f, ih)
 
--- ---- with another row in its place
+-- ---- With another row in its place
 
 pub rowAt-withRow : (h : ℕ) (old new : Row) (rs : List Row) → new .handle ≡ h → rowAt h rs ≡ some old
     → rowAt h (withRow h new rs) ≡ some new
@@ -149,7 +155,7 @@ rowAt-withRow-other h k new (x ∷ xs) e n = go (eqb (x .handle) k) refl (rowAt-
         rw f (rowAt-skip h new (withRow k new xs) (rw e n) ∙ ih ∙ sym (rowAt-skip h x xs (rw (eqb-true (x .handle) k f) n)))
     go false f ih = rw (f, ih)
 
--- ---- after an operation
+-- ---- After an operation
 
 -- another handle's row stays
 pub rowAt-other : {m : Image} {o : RowOperation} (h : ℕ) → Fits m o → eqb (handleOf o) h ≡ false
@@ -161,11 +167,11 @@ rowAt-other {m} h (updateFits {old = old} {new = new} a b c) e = rowAt-withRow-o
 
 pub rowAt-inserted : (m : Image) (r : Row) → rowAt (r .handle) (m .rows) ≡ none → rowAt (r .handle) (make (inserts r) m .rows) ≡ some r
 unfolding make
-rowAt-inserted m r q = rowAt-back (r .handle) (m .rows) (r ∷ []) q ∙ rowAt-head (r .handle) r [] (eq-eqb (r .handle) (r .handle) refl)
+rowAt-inserted m r q = rowAt-back (r .handle) (m .rows) (r ∷ []) q ∙ rowAt-head (r .handle) r [] (eqb-self (r .handle))
 
 pub rowAt-deleted : (m : Image) (r : Row) → rowAt (r .handle) (make (deletes r) m .rows) ≡ none
 unfolding make
-rowAt-deleted m r = rowAt-without (r .handle) (r .handle) (m .rows) (eq-eqb (r .handle) (r .handle) refl)
+rowAt-deleted m r = rowAt-without (r .handle) (r .handle) (m .rows) (eqb-self (r .handle))
 
 pub rowAt-updated : (m : Image) (mask : ℕ) (old new : Row) → new .handle ≡ old .handle → rowAt (old .handle) (m .rows) ≡ some old
     → rowAt (old .handle) (make (updates mask old new) m .rows) ≡ some new
@@ -186,7 +192,7 @@ next-other h (insertFits {r = r} a b c d) n l = let x = eqb-false (r .handle) h 
 next-other h (deleteFits a) n l = l
 next-other h (updateFits a b c) n l = l
 
--- ---- one stretch after another
+-- ---- One stretch after another
 
 pub makeAll-append : (xs ys : List RowOperation) (m : Image) → makeAll (xs ++ ys) m ≡ makeAll ys (makeAll xs m)
 unfolding makeAll
@@ -207,7 +213,7 @@ unfolding makeAll
 made-append noneMade l = l
 made-append (more f k) l = more f (made-append k l)
 
--- ---- handles are given once, rising
+-- ---- Handles are given once, rising
 
 pub all-next-rises : {m : Image} {os : List RowOperation} → Made m os → m .next ≤ makeAll os m .next
 unfolding makeAll

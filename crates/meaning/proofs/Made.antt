@@ -1,19 +1,20 @@
--- Operations that fit an image, one after another: what every stretch of a run is made of, and what its laws need to know of it.
+-- The notions that the proofs share: proper rows, sound images, and operations that fit an image one after another, of which every stretch
+-- of a run is made.
 use mathlib.Core.Path.{_≡_}
 use mathlib.Core.List.{List, [], _∷_}
-use mathlib.Core.Option.{Option, some}
-use Prim.Native.Nat.{ℕ, suc, _≤_, _<_}
+use mathlib.Core.Option.{some}
+use Prim.Native.Nat.{ℕ, _≤_, _<_}
 use lib.IntN.{ℤ}
 use lib.Signed.{mag}
 use lib.ListN.{length}
 use Rattle.meaning.specs.Covers.{mostRows, lastHandle, Row, Image}
 use Rattle.meaning.specs.RowOperations.{RowOperation, inserts, deletes, updates, rowAt, make}
 use Rattle.meaning.specs.Trace.{OnlyIn}
+use Rattle.meaning.proofs.Lists.{Each}
 
 -- each value is a signed 32-bit number
-pub data InRange : List ℤ → Type 0 where
-  noValue : InRange []
-  oneMore : {v : ℤ} {vs : List ℤ} → mag v ≤ 2147483647 → InRange vs → InRange (v ∷ vs)
+abbrev pub InRange : List ℤ → Type 0
+InRange vs = Each (λ v. mag v ≤ 2147483647) vs
 
 -- a table 0..3 and four values
 pub record Proper (r : Row) : Type 0 where
@@ -24,7 +25,8 @@ pub record Proper (r : Row) : Type 0 where
 -- proper rows by rising handle, above `low` and below `high`
 pub data Rising (high : ℕ) : ℕ → List Row → Type 0 where
   noRow : {low : ℕ} → Rising high low []
-  above : {low : ℕ} {r : Row} {rs : List Row} → low < r .handle → r .handle < high → Proper r → Rising high (r .handle) rs → Rising high low (r ∷ rs)
+  above : {low : ℕ} {r : Row} {rs : List Row} → low < r .handle → r .handle < high → Proper r → Rising high (r .handle) rs
+      → Rising high low (r ∷ rs)
 
 -- an image that a parser accepts
 pub record Sound (m : Image) : Type 0 where

@@ -7,15 +7,15 @@ use mathlib.Core.List.{List, [], _∷_, _++_}
 use Prim.Native.Nat.{ℕ, suc, _≤_, _<_}
 use native.Mathlib.Omega.{arith}
 use lib.Dec.{eqb, ltb}
-use borrow.Author.Tests.{eqb-true, eqb-false, eq-eqb, ne-eqb, ltb-true, ltb-false, lt-ltb, le-ltb}
-use Rattle.meaning.specs.Base.{if_then_else_, any}
+use borrow.Author.Tests.{eqb-true, eqb-false, ne-eqb, ltb-true, ltb-false, lt-ltb, le-ltb}
+use Rattle.meaning.specs.Base.{if_then_else_}
 use Rattle.meaning.specs.RowOperations.{RowOperation, Effect, NetEffect, nothing, inserted, deleted, updated, handleOf, join}
-use Rattle.meaning.specs.RowOperations.{effectOf, single, joinedOn, net}
-use Rattle.meaning.specs.RowOperations.{place, namedOn, named, entry, entries, netEffect, effectAt}
+use Rattle.meaning.specs.RowOperations.{effectOf, single, joinedOn, net, place, namedOn, named, entry, entries, netEffect, effectAt}
 use Rattle.meaning.specs.Theorems.{SaysNet}
+use Rattle.meaning.proofs.Lists.{or-false, has, eqb-self}
 use Rattle.meaning.proofs.JoinTable.{nothing-join, join-nothing}
 
--- ---- how an operation joins a net effect
+-- ---- How an operation joins a net effect
 
 -- the effect e on the handle k joins what is there
 unfoldable pub joinInto : ℕ → Effect → NetEffect → NetEffect
@@ -31,14 +31,7 @@ pub data Listed : ℕ → NetEffect → Type 0 where
   noEntry : {low : ℕ} → Listed low []
   oneEntry : {low : ℕ} {p : ℕ × Effect} {ps : NetEffect} → low ≤ p .0 → p .1 ≢ nothing → Listed (suc (p .0)) ps → Listed low (p ∷ ps)
 
--- the number is in the list
-unfoldable pub has : ℕ → List ℕ → Bool
-has h ks = any (λ k. eqb k h) ks
-
--- ---- one operation on one handle
-
-pub eqb-self : (h : ℕ) → eqb h h ≡ true
-eqb-self h = eq-eqb h h refl
+-- ---- One operation on one handle
 
 pub single-other : (h : ℕ) (o : RowOperation) → eqb (handleOf o) h ≡ false → single h o ≡ nothing
 unfolding single
@@ -49,14 +42,10 @@ unfolding single
 single-own h o e = rw e
 
 -- an effect goes on from where it stands
-pub joined-append : (h : ℕ) (e : Effect) (xs ys : List RowOperation) → joinedOn h e (xs ++ ys) ≡ joinedOn h (joinedOn h e xs) ys
+pub joinedOn-append : (h : ℕ) (e : Effect) (xs ys : List RowOperation) → joinedOn h e (xs ++ ys) ≡ joinedOn h (joinedOn h e xs) ys
 unfolding joinedOn
-joined-append h e [] ys = refl
-joined-append h e (o ∷ xs) ys = joined-append h (join e (single h o)) xs ys
-
-pub net-none : (h : ℕ) → net h [] ≡ nothing
-unfolding net joinedOn
-net-none h = refl
+joinedOn-append h e [] ys = refl
+joinedOn-append h e (o ∷ xs) ys = joinedOn-append h (join e (single h o)) xs ys
 
 pub net-one : (h : ℕ) (o : RowOperation) → net h (o ∷ []) ≡ single h o
 unfolding net joinedOn
@@ -64,9 +53,9 @@ net-one h o = nothing-join (single h o)
 
 pub net-more : (h : ℕ) (os : List RowOperation) (o : RowOperation) → net h (os ++ (o ∷ [])) ≡ join (net h os) (single h o)
 unfolding net joinedOn
-net-more h os o = joined-append h nothing os (o ∷ [])
+net-more h os o = joinedOn-append h nothing os (o ∷ [])
 
--- ---- the handles that are named, by rising handle
+-- ---- The handles that are named, by rising handle
 
 data Rises : ℕ → List ℕ → Type 0 where
   empty : {low : ℕ} → Rises low []
@@ -87,8 +76,8 @@ unfolding namedOn
 named-rises [] r = r
 named-rises (o ∷ os) r = named-rises os (place-rises (handleOf o) (omega arith) r)
 
-has-place : (h k : ℕ) (ks : List ℕ) → has h (place k ks) ≡ (eqb k h || has h ks)
-unfolding place has
+has-place : (h k : ℕ) (ks : List ℕ) → has h (place k ks) ≡ (eqb h k || has h ks)
+unfolding place
 has-place h k [] = refl
 has-place h k (j ∷ js) = go (ltb k j) refl (eqb k j) refl (has-place h k js)
   where
@@ -102,34 +91,28 @@ has-place h k (j ∷ js) = go (ltb k j) refl (eqb k j) refl (has-place h k js)
     twice true c = refl
     twice false c = refl
 
-    go : (b : Bool) → ltb k j ≡ b → (d : Bool) → eqb k j ≡ d → has h (place k js) ≡ (eqb k h || has h js)
-        → has h (place k (j ∷ js)) ≡ (eqb k h || has h (j ∷ js))
+    go : (b : Bool) → ltb k j ≡ b → (d : Bool) → eqb k j ≡ d → has h (place k js) ≡ (eqb h k || has h js)
+        → has h (place k (j ∷ js)) ≡ (eqb h k || has h (j ∷ js))
     go true t d e ih = rw t
-    go false t true e ih = rw (t, e, eqb-true k j e) (twice (eqb j h) (has h js))
-    go false t false e ih = rw (t, e, ih) (swap (eqb j h) (eqb k h) (has h js))
+    go false t true e ih = rw (t, e, eqb-true k j e) (twice (eqb h j) (has h js))
+    go false t false e ih = rw (t, e, ih) (swap (eqb h j) (eqb h k) (has h js))
 
 -- a handle that is not named keeps its effect
 not-named : (h : ℕ) (ks : List ℕ) (e : Effect) (os : List RowOperation) → has h (namedOn ks os) ≡ false
     → (has h ks ≡ false) × (joinedOn h e os ≡ e)
 unfolding namedOn joinedOn
 not-named h ks e [] q = (q, refl)
-not-named h ks e (o ∷ os) q = go (not-named h (place (handleOf o) ks) (join e (single h o)) os q)
-  where
-    go : (has h (place (handleOf o) ks) ≡ false) × (joinedOn h (join e (single h o)) os ≡ join e (single h o))
-        → (has h ks ≡ false) × (joinedOn h (join e (single h o)) os ≡ e)
-    go (a, b) = on (eqb (handleOf o) h) refl (sym (has-place h (handleOf o) ks) ∙ a)
-      where
-        on : (t : Bool) → eqb (handleOf o) h ≡ t → (eqb (handleOf o) h || has h ks) ≡ false
-            → (has h ks ≡ false) × (joinedOn h (join e (single h o)) os ≡ e)
-        on true t r = absurd (let z : true ≡ false = rw t at r in let y : _≡_ {A = ℕ} 0 1 = cc in omega arith)
-        on false t r = (rw t at r, b ∙ rw (single-other h o t) (join-nothing e))
+not-named h ks e (o ∷ os) q =
+    let ih = not-named h (place (handleOf o) ks) (join e (single h o)) os q in
+    let n = or-false (eqb h (handleOf o)) (has h ks) (sym (has-place h (handleOf o) ks) ∙ ih .0) in
+    let other = single-other h o (ne-eqb (handleOf o) h (λ f. eqb-false h (handleOf o) (n .0) (sym f))) in
+    (n .1, ih .1 ∙ rw other (join-nothing e))
 
 not-low : {low : ℕ} {hs : List ℕ} (k : ℕ) → k < low → Rises low hs → has k hs ≡ false
-unfolding has
 not-low k l empty = refl
-not-low k l (above {h = h} a r) = rw (ne-eqb h k (λ q. omega arith), not-low k (omega arith) r)
+not-low k l (above {h = h} a r) = rw (ne-eqb k h (λ q. omega arith), not-low k (omega arith) r)
 
--- ---- one more effect on the handle k
+-- ---- One more effect on the handle k
 
 join-low : {low : ℕ} {hs : List ℕ} (g : ℕ → Effect) (k : ℕ) (e : Effect) → k < low → Rises low hs
     → joinInto k e (entries g hs) ≡ entry k e (entries g hs)
@@ -155,7 +138,7 @@ same-entries g g′ q (above {h = h} a r) = rw (q h a, same-entries g g′ (λ k
 module _ (g g′ : ℕ → Effect) (k : ℕ) (e : Effect) (here : g′ k ≡ join (g k) e) (there : (h : ℕ) → eqb k h ≡ false → g′ h ≡ g h) where
   join-entries : {low : ℕ} {hs : List ℕ} → Rises low hs → (has k hs ≡ false → g k ≡ nothing)
       → entries g′ (place k hs) ≡ joinInto k e (entries g hs)
-  unfolding place entry entries joinInto has
+  unfolding place entry entries joinInto
   join-entries empty c = rw (here, c refl, nothing-join)
   join-entries (above {h = h} {hs = hs} a r) c = go (ltb k h) refl (eqb k h) refl (join-entries r)
     where
@@ -189,10 +172,9 @@ module _ (g g′ : ℕ → Effect) (k : ℕ) (e : Effect) (here : g′ k ≡ joi
           rw (t, q, ← s, here, same-entries g g′ over u) (at-k (g k) u)
       go false t false q ih =
           let u = ltb-false k h t in let v = eqb-false k h q in
-          let n : eqb h k ≡ false = ne-eqb h k (λ (w : h ≡ k). v (sym w)) in
-          rw (t, q, there h q) (past (g h) (omega arith) (ih (λ w. c (rw n w))))
+          rw (t, q, there h q) (past (g h) (omega arith) (ih (λ w. c (rw q w))))
 
--- ---- an operation more joins the net effect
+-- ---- An operation more joins the net effect
 
 named-more : (ks : List ℕ) (os : List RowOperation) (o : RowOperation) → namedOn ks (os ++ (o ∷ [])) ≡ place (handleOf o) (namedOn ks os)
 unfolding namedOn
@@ -213,7 +195,7 @@ netEffect-more os o =
     (named-rises os empty)
     (λ q. not-named (handleOf o) [] nothing os q .1)
 
--- ---- its shape
+-- ---- Its shape
 
 eased : {low low′ : ℕ} {es : NetEffect} → low′ ≤ low → Listed low es → Listed low′ es
 eased l noEntry = noEntry
@@ -234,26 +216,27 @@ pub netEffect-listed : (os : List RowOperation) → Listed 0 (netEffect os)
 unfolding netEffect named
 netEffect-listed os = entries-listed (λ h. net h os) (named-rises os empty)
 
--- ---- what it says of a handle
+-- ---- What it says of a handle
 
 entries-at : {low : ℕ} {hs : List ℕ} (g : ℕ → Effect) (h : ℕ) → Rises low hs
     → effectAt h (entries g hs) ≡ (if has h hs then g h else nothing)
-unfolding entry entries effectAt has
+unfolding entry entries effectAt
 entries-at g h empty = refl
 entries-at g h (above {h = j} {hs = hs} a r) = go (eqb j h) refl (g j) refl (entries-at g h r)
   where
+    not-here : eqb j h ≡ false → eqb h j ≡ false
+    not-here q = ne-eqb h j (λ e. eqb-false j h q (sym e))
+
     go : (b : Bool) → eqb j h ≡ b → (f : Effect) → g j ≡ f → effectAt h (entries g hs) ≡ (if has h hs then g h else nothing)
-        → effectAt h (entry j f (entries g hs)) ≡ (if (eqb j h || has h hs) then g h else nothing)
-    go true q nothing e ih =
-        let s : j ≡ h = eqb-true j h q in
-        rw (q, ih, not-low h (omega arith) r, ← s, e)
-    go true q (inserted t) e ih = rw (q, ← eqb-true j h q, e)
-    go true q (deleted x) e ih = rw (q, ← eqb-true j h q, e)
-    go true q (updated m x) e ih = rw (q, ← eqb-true j h q, e)
-    go false q nothing e ih = rw q ih
-    go false q (inserted t) e ih = rw q ih
-    go false q (deleted x) e ih = rw q ih
-    go false q (updated m x) e ih = rw q ih
+        → effectAt h (entry j f (entries g hs)) ≡ (if (eqb h j || has h hs) then g h else nothing)
+    go true q nothing e ih = let s : j ≡ h = eqb-true j h q in rw (ih, not-low h (omega arith) r, ← s, eqb-self j, e)
+    go true q (inserted t) e ih = rw (q, ← eqb-true j h q, eqb-self j, e)
+    go true q (deleted x) e ih = rw (q, ← eqb-true j h q, eqb-self j, e)
+    go true q (updated m x) e ih = rw (q, ← eqb-true j h q, eqb-self j, e)
+    go false q nothing e ih = rw (not-here q) ih
+    go false q (inserted t) e ih = rw (q, not-here q) ih
+    go false q (deleted x) e ih = rw (q, not-here q) ih
+    go false q (updated m x) e ih = rw (q, not-here q) ih
 
 pub says-net : SaysNet
 unfolding netEffect named net

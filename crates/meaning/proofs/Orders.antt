@@ -1,4 +1,4 @@
--- The total order (theorem 7): each rule in it is the lowest one ready after those before it. So it is new there, its predecessors stand
+-- The total order: each rule in it is the lowest one ready after those before it. So it is new there, its predecessors stand
 -- before it, and a lower rule still waits for one; and as many distinct rules as the book has are all of its rules.
 use mathlib.Core.Path.{_≡_, refl}
 use mathlib.Core.Bool.{Bool, true, false, _||_, not}
@@ -15,9 +15,9 @@ use Rattle.meaning.specs.Base.{maybe, any, all, firstWith}
 use Rattle.meaning.specs.Covers.{Rule}
 use Rattle.meaning.specs.Processing.TotalOrder.{numbers, precedesRule, ready, takeFrom, orderOf, totalOrder}
 use Rattle.meaning.specs.Theorems.{precedesOf, TotalOrder}
-use Rattle.meaning.proofs.Members.{true-is-false, or-false, and-true, and-false, any-append, First, first-is}
-use Rattle.meaning.proofs.Members.{not-empty, AtEnd, isEnd, isBefore, at-end, has, has-here, has-split, has-none, has-all, all-false}
-use Rattle.meaning.proofs.Members.{from-has, has-from, from-earlier, Distinct, all-new, all-there}
+use Rattle.meaning.proofs.Lists.{true-is-false, or-false, and-true, and-false, any-append, First, first-is, not-empty, AtEnd, isEnd}
+use Rattle.meaning.proofs.Lists.{isBefore, at-end, has, has-here, has-split, has-none, has-all, all-false, from-has, has-from}
+use Rattle.meaning.proofs.Lists.{from-earlier, Distinct, all-new, all-there}
 
 module _ (precedes : List ℕ) where
   -- ---- Rules and their predecessors

@@ -1,24 +1,25 @@
 -- What a parser that succeeds tells of the bytes, and what makes it succeed. A parser and a writer belong together (`Reads`) where the
 -- parser gives a value exactly if the slice holds the writer's bytes of it there; sequences of such parsers belong to joined bytes.
 use mathlib.Core.Path.{_≡_, refl, sym, ap, _∙_}
-use mathlib.Core.Bool.{Bool, true, false, _&&_}
+use mathlib.Core.Bool.{Bool, true, false}
 use mathlib.Core.List.{List, [], _∷_, _++_, append-assoc, append-nil}
 use mathlib.Core.Option.{some}
 use Prim.Native.Nat.{ℕ, zero, suc, _+_, _*_, _/_, _%_, _-_, _≤_, _<_}
 use native.Mathlib.Omega.{arith}
-use native.Mathlib.Nat.{zero-add, add-zero}
+use native.Mathlib.Nat.{add-zero}
 use native.Mathlib.Numerals.{add-one}
 use lib.IntN.{ℤ, pos, negsuc}
 use lib.Signed.{mag}
 use lib.Dec.{eqb, leb, ltb}
-use lib.ListN.{length, drop, take, length-append, length-drop}
-use lib.Seq.{drop-cons, drop-drop, drop-append-seam, take-append-seam, drop-length, getD-drop}
+use lib.ListN.{length, take, drop, length-append, length-drop}
+use lib.Seq.{take-append-seam, drop-cons, drop-drop, drop-append-seam, drop-length, getD-drop}
 use borrow.Author.Tests.{eqb-true, eq-eqb, leb-true, le-leb, ltb-true, ltb-false, lt-ltb, le-ltb}
 use Rattle.meaning.specs.Base.{if_then_else_, within}
-use Rattle.meaning.specs.Reading.{Read, bad, got, Parser, onFrom, must, byteAt, byteWithin, byte, number16, number32}
-use Rattle.meaning.specs.Reading.{many, bytesLeft, readAll, valueOf}
+use Rattle.meaning.specs.Reading.{Read, bad, got, Parser, onFrom, must, byteAt, byteWithin, byte, number16, number32, many, bytesLeft}
+use Rattle.meaning.specs.Reading.{readAll, valueOf}
 use Rattle.meaning.specs.Values.{signed, unsigned}
 use Rattle.meaning.specs.ByteLayouts.{value, framed, bytes2, bytes4}
+use Rattle.meaning.proofs.Lists.{and-true, Each, noElement, anElement}
 
 -- ---- Bytes in a slice
 
@@ -64,16 +65,12 @@ module _ {s : List ℕ} {at : ℕ} where
   spans-last {bytes} {next} p e =
       p .holds ∙ ap (λ (l : List ℕ). bytes ++ l) (ap (λ (k : ℕ). drop k s) e ∙ drop-length s) ∙ append-nil bytes
 
+  -- they end within the slice, and can be taken from it
   pub spans-within : {bytes : List ℕ} {next : ℕ} → Spans s at bytes next → at ≤ length s → next ≤ length s
-  spans-within {bytes} {next} p h =
-      omega (arith, simp (length-drop, length-append) at (ap length (p .holds)), p .ends)
+  spans-within {bytes} {next} p h = omega (arith, simp (length-drop, length-append) at (ap length (p .holds)), p .ends)
 
   pub spans-take : {bytes : List ℕ} {next : ℕ} → Spans s at bytes next → take (length bytes) (drop at s) ≡ bytes
   spans-take {bytes} {next} p = ap (λ (l : List ℕ). take (length bytes) l) (p .holds) ∙ take-append-seam bytes (drop next s)
-
--- bytes between others
-pub spans-between : (xs bytes ys : List ℕ) → Spans (xs ++ (bytes ++ ys)) (length xs) bytes (length xs + length bytes)
-spans-between xs bytes ys = spans-first bytes ys (simp zero-add at (spans-rest xs (spans-whole (xs ++ (bytes ++ ys)))))
 
 -- ---- One parser after another
 
@@ -127,10 +124,6 @@ pub record Reads {A : Type 0} (p : Parser A) (bytesOf : A → List ℕ) (Fit : A
   pub found : {s : List ℕ} {at : ℕ} {a : A} {next : ℕ} → Fit a → Spans s at (bytesOf a) next → p s at ≡ got a next
 
 -- ---- A byte
-
-pub and-true : (a b : Bool) → (a && b) ≡ true → (a ≡ true) × (b ≡ true)
-and-true true b e = (refl, e)
-and-true false b e = absurd (let z : _≡_ {A = ℕ} 0 1 = cc in omega arith)
 
 pub within-true : (lo hi n : ℕ) → within lo hi n ≡ true → (lo ≤ n) × (n ≤ hi)
 within-true lo hi n e = let h = and-true (leb lo n) (leb n hi) e in (leb-true lo n (h .0), leb-true n hi (h .1))
@@ -287,11 +280,6 @@ value-reads = record {
 
 -- ---- Many of a kind
 
--- each element is so
-pub data Each {A : Type 0} (P : A → Type 0) : List A → Type 0 where
-  noneLeft : Each P []
-  oneMore : {x : A} {xs : List A} → P x → Each P xs → Each P (x ∷ xs)
-
 module _ {A : Type 0} where
   -- the bytes of all, one after another
   abbrev pub spread : (A → List ℕ) → List A → List ℕ
@@ -303,12 +291,12 @@ module _ {A : Type 0} where
     pub many-each : {P : A → Type 0} → ((s : List ℕ) (at : ℕ) (x : A) (next : ℕ) → p s at ≡ got x next → P x)
         → (n : ℕ) (s : List ℕ) (at : ℕ) {xs : List A} {next : ℕ} → many n p s at ≡ got xs next → (length xs ≡ n) × Each P xs
     unfolding many
-    many-each all zero s at e = rw (← same-value e) (refl, noneLeft)
+    many-each all zero s at e = rw (← same-value e) (refl, noElement)
     many-each all (suc n) s at e =
         on-from-got (p s at) _ e (λ x mid one rest.
         on-from-got (many n p s mid) _ rest (λ xs end two same.
         let ih = many-each all n s mid two in
-        rw (← same-value same) (ap suc (ih .0), oneMore (all s at x mid one) (ih .1))))
+        rw (← same-value same) (ap suc (ih .0), anElement (all s at x mid one) (ih .1))))
 
     module _ {bytesOf : A → List ℕ} {Fit : A → Type 0} (reads : Reads p bytesOf Fit) where
       many-told : (n : ℕ) {s : List ℕ} {at : ℕ} {xs : List A} {next : ℕ} → many n p s at ≡ got xs next
@@ -323,10 +311,10 @@ module _ {A : Type 0} where
       many-found : (n : ℕ) {s : List ℕ} {at : ℕ} {xs : List A} {next : ℕ} → length xs ≡ n → Each Fit xs
           → Spans s at (spread bytesOf xs) next → many n p s at ≡ got xs next
       unfolding many
-      many-found zero h noneLeft span = same-got refl (omega (arith, span .ends))
-      many-found zero h (oneMore f fs) span = absurd (omega arith)
-      many-found (suc n) h noneLeft span = absurd (omega arith)
-      many-found (suc n) h (oneMore {x} {xs} f fs) span =
+      many-found zero h noElement span = same-got refl (omega (arith, span .ends))
+      many-found zero h (anElement f fs) span = absurd (omega arith)
+      many-found (suc n) h noElement span = absurd (omega arith)
+      many-found (suc n) h (anElement {x} {xs} f fs) span =
           rw (
             reads .found f (spans-first (bytesOf x) (spread bytesOf xs) span),
             many-found n (omega arith) fs (spans-rest (bytesOf x) span),

@@ -7,7 +7,6 @@ use mathlib.Core.Option.{some}
 use Prim.Native.Nat.{ℕ, _≤_, _<_}
 use native.Mathlib.Omega.{arith}
 use lib.IntN.{ℤ}
-use lib.Signed.{mag}
 use lib.Dec.{leb, ltb}
 use lib.ListN.{length}
 use borrow.Author.Tests.{leb-true, ltb-true}
@@ -17,28 +16,20 @@ use Rattle.meaning.specs.Covers.{mostRows, Row, Image}
 use Rattle.meaning.specs.ByteLayouts
 use Rattle.meaning.specs.ByteLayouts.{framed, value, table, row, rising, bytes2, bytes4, valueBytes, rowBytes, rowsBytes, imageBytes}
 use Rattle.meaning.specs.Theorems.{RoundTrip}
-use Rattle.meaning.proofs.Made.{InRange, noValue, oneMore, Proper, Rising, noRow, above, Sound}
+use Rattle.meaning.proofs.Lists.{and-true, Each, noElement, anElement}
+use Rattle.meaning.proofs.Made.{InRange, Proper, Rising, noRow, above, Sound}
 use Rattle.meaning.proofs.Parsing.{Spans, spans-as, spans-then, spans-first, spans-rest, on-from-got, same-value, same-place}
-use Rattle.meaning.proofs.Parsing.{must-got, and-true, Reads, reads-as, byte-reads, number16-reads, number32-reads, value-reads}
-use Rattle.meaning.proofs.Parsing.{Each, spread, many-reads, read-all, framed-got, framed-told}
-use Rattle.meaning.proofs.Parsing as Parsing
+use Rattle.meaning.proofs.Parsing.{must-got, Reads, reads-as, byte-reads, number16-reads, number32-reads, value-reads, spread}
+use Rattle.meaning.proofs.Parsing.{many-reads, read-all, framed-got, framed-told}
 
 -- ---- The values of a row
-
-pub each-in-range : {vs : List ℤ} → Each (λ v. mag v ≤ 2147483647) vs → InRange vs
-each-in-range Parsing.noneLeft = noValue
-each-in-range (Parsing.oneMore f fs) = oneMore f (each-in-range fs)
-
-pub in-range-each : {vs : List ℤ} → InRange vs → Each (λ v. mag v ≤ 2147483647) vs
-in-range-each noValue = Parsing.noneLeft
-in-range-each (oneMore f fs) = Parsing.oneMore f (in-range-each fs)
 
 value-bytes : (vs : List ℤ) → spread (λ v. bytes4 (unsigned v)) vs ≡ valueBytes vs
 unfolding valueBytes
 value-bytes [] = refl
 value-bytes (v ∷ vs) = rw (value-bytes vs)
 
-pub values-read : (n : ℕ) → Reads (many n value) valueBytes (λ vs. (length vs ≡ n) × Each (λ v. mag v ≤ 2147483647) vs)
+pub values-read : (n : ℕ) → Reads (many n value) valueBytes (λ vs. (length vs ≡ n) × InRange vs)
 values-read n = reads-as value-bytes (many-reads value-reads n)
 
 -- ---- Rows
@@ -66,7 +57,7 @@ row-reads = record {
       on-from-got (many 4 value s mid2) _ rest2 (λ vs mid3 three same.
       let k = values-read 4 .fit three in
       let proper : Proper (record { handle = h; table = t; values = vs })
-      = record { tableFits = table-reads .fit two .1; four = k .0; inRange = each-in-range (k .1) } in
+      = record { tableFits = table-reads .fit two .1; four = k .0; inRange = k .1 } in
       let fits : FitRow (record { handle = h; table = t; values = vs })
       = record { handleFits = number32-reads .fit one; proper = proper } in
       rw (same-value same) at fits)));
@@ -77,7 +68,7 @@ row-reads = record {
       rw (
         number32-reads .found (f .handleFits) (spans-first (bytes4 h) (t ∷ valueBytes (r .values)) span),
         table-reads .found (omega arith, f .proper .tableFits) (spans-first (t ∷ []) (valueBytes (r .values)) rest),
-        values-read 4 .found (f .proper .four, in-range-each (f .proper .inRange)) (spans-rest (t ∷ []) rest),
+        values-read 4 .found (f .proper .four, f .proper .inRange) (spans-rest (t ∷ []) rest),
       );
 }
 
@@ -91,8 +82,8 @@ rows-read n = reads-as rows-bytes (many-reads row-reads n)
 
 pub rising-rows : {high : ℕ} (low : ℕ) {rs : List Row} → Each FitRow rs → rising low high rs ≡ true → Rising high low rs
 unfolding rising
-rising-rows low Parsing.noneLeft e = noRow
-rising-rows {high} low (Parsing.oneMore {x = r} {xs = rs} f fs) e =
+rising-rows low noElement e = noRow
+rising-rows {high} low (anElement {x = r} {xs = rs} f fs) e =
     let k = and-true (ltb low (r .handle) && ltb (r .handle) high) (rising (r .handle) high rs) e in
     let j = and-true (ltb low (r .handle)) (ltb (r .handle) high) (k .0) in
     above (ltb-true low (r .handle) (j .0)) (ltb-true (r .handle) high (j .1)) (f .proper) (rising-rows (r .handle) fs (k .1))

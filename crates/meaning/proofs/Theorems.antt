@@ -1,28 +1,23 @@
--- Each statement of specs/Theorems.antt, proved, under its name.
-use mathlib.Core.Path.{_≡_, refl, sym, ap, _∙_}
+-- Each statement of specs/Theorems.antt, proved, under its name: what the other files prove, put together.
+use mathlib.Core.Path.{_≡_, ap, _∙_}
 use mathlib.Core.List.{List, _∷_, _++_}
-use mathlib.Core.Option.{some}
 use Prim.Native.Nat.{ℕ}
 use native.Mathlib.Omega.{arith}
-use Rattle.meaning.specs.Reading.{readAll}
-use Rattle.meaning.specs.Covers.{Image, commit}
-use Rattle.meaning.specs.ByteLayouts
+use Rattle.meaning.specs.Covers.{commit}
 use Rattle.meaning.specs.ByteLayouts.{imageBytes}
-use Rattle.meaning.specs.RowOperations.{RowOperation, inserts, rowAt, makeAll, net}
-use Rattle.meaning.specs.Processing.{Event, made}
+use Rattle.meaning.specs.RowOperations.{inserts}
+use Rattle.meaning.specs.Processing.{made}
 use Rattle.meaning.specs.EntryPoints.{handedBack, verdict, written}
-use Rattle.meaning.specs.Trace.{operationsIn, sinceLast, Differs}
+use Rattle.meaning.specs.Trace.{operationsIn}
 use Rattle.meaning.specs.Theorems.{Accepted, endingOf}
 use Rattle.meaning.specs.Theorems as Stated
-use Rattle.meaning.proofs.Made.{Sound, Made}
-use Rattle.meaning.proofs.FitsImages.{makeAll-sound}
-use Rattle.meaning.proofs.Lookups.{all-next-rises, given-fresh, given-once}
 use Rattle.meaning.proofs.WrittenRead.{rises-true, written-read}
+use Rattle.meaning.proofs.Lookups.{all-next-rises, given-fresh, given-once}
+use Rattle.meaning.proofs.Images.{makeAll-sound}
 use Rattle.meaning.proofs.Lives.{net-outside, differs}
 use Rattle.meaning.proofs.Capacity.{capacity}
-use Rattle.meaning.proofs.Traces.{operations-append, untilLast}
-use Rattle.meaning.proofs.Fits.{run-sound, run-made, run-replayed}
-use Rattle.meaning.proofs.Joined.{made-at, sound-since, made-since}
+use Rattle.meaning.proofs.Traces.{operations-append}
+use Rattle.meaning.proofs.RunsFit.{run-sound, run-made, run-replayed, run-end-sound, made-around, made-at, sound-since, made-since}
 use Rattle.meaning.proofs.Ends as Ends
 use Rattle.meaning.proofs.Given as Given
 use Rattle.meaning.proofs.Joined as Joined
@@ -37,9 +32,6 @@ pub every-run : Stated.EveryRun
 every-run = Ends.every-run
 
 module _ {image book log : List ℕ} (a : Accepted image book log) where
-  end-sound : Sound (endingOf a .image)
-  end-sound = rw (run-replayed a) (makeAll-sound (run-sound a) (run-made a))
-
   -- ---- 1. Ends
 
   pub ends : Stated.Ends a
@@ -54,9 +46,9 @@ module _ {image book log : List ℕ} (a : Accepted image book log) where
   pub chains : Stated.Chains a
   chains =
       record {
-        reads = λ q. rw (hands-end q) (written-read end-sound);
-        rises = rises-true (end-sound .rises);
-        fits = end-sound .rowsFit;
+        reads = λ q. rw (hands-end q) (written-read (run-end-sound a));
+        rises = rises-true (run-end-sound a .rises);
+        fits = run-end-sound a .rowsFit;
         onward = rw (run-replayed a) (all-next-rises (run-made a));
       }
 
@@ -87,10 +79,6 @@ module _ {image book log : List ℕ} (a : Accepted image book log) where
 
   -- ---- 9. Sizes
 
-  operations-at : (before after : List Event) → endingOf a .trace ≡ before ++ after
-      → Made (a .start) (operationsIn before ++ operationsIn after)
-  operations-at before after q = rw (← operations-append before after, ← q) (run-made a)
-
   pub sizes : Stated.Sizes a
   unfolding operationsIn
   sizes =
@@ -100,11 +88,12 @@ module _ {image book log : List ℕ} (a : Accepted image book log) where
             let s = sound-since a before after q k in
             let d = made-since a before after q k in
             omega (arith, capacity s d, s .rowsFit, makeAll-sound s d .rowsFit);
-        fresh = λ before after r q. given-fresh (operationsIn before) r (operationsIn after) (operations-at before (made (inserts r) ∷ after) q);
+        fresh = λ before after r q.
+            given-fresh (operationsIn before) r (operationsIn after) (made-around a before (made (inserts r) ∷ after) q);
         once = λ before between after r s q.
             given-once {m = a .start} (operationsIn before) r (operationsIn between) s (operationsIn after)
             (rw (← operations-append before (made (inserts r) ∷ between))
-            (operations-at (before ++ (made (inserts r) ∷ between)) (made (inserts s) ∷ after) q));
+            (made-around a (before ++ (made (inserts r) ∷ between)) (made (inserts s) ∷ after) q));
       }
 
 -- ---- 2. Round trip

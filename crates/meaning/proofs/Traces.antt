@@ -2,7 +2,7 @@
 -- and the steps of a run by cases.
 use mathlib.Core.Path.{_≡_, refl, sym, ap, _∙_}
 use mathlib.Core.Bool.{Bool, true, false}
-use mathlib.Core.List.{List, [], _∷_, _++_, map, append-assoc, append-nil, head-eq-of-cons-eq, tail-eq-of-cons-eq}
+use mathlib.Core.List.{List, [], _∷_, _++_, map, append-assoc, append-nil}
 use mathlib.Core.Option.{Option, none, some}
 use Prim.Native.Nat.{ℕ, zero, suc}
 use lib.Dec.{eqb}
@@ -26,21 +26,6 @@ if-both P false p q = q
 -- ---- Any list, element by element
 
 module _ {A : Type 0} where
-  -- where an element of a list of two parts stands
-  pub data Stands (e : A) (xs ys before after : List A) : Type 0 where
-    inFirst : (rest : List A) → xs ≡ before ++ (e ∷ rest) → after ≡ rest ++ ys → Stands e xs ys before after
-    inSecond : (rest : List A) → ys ≡ rest ++ (e ∷ after) → before ≡ xs ++ rest → Stands e xs ys before after
-
-  pub stands : (xs before : List A) {ys after : List A} {e : A} → xs ++ ys ≡ before ++ (e ∷ after) → Stands e xs ys before after
-  stands [] before q = inSecond before q refl
-  stands (x ∷ xs) [] {ys} {after} {e} q =
-      inFirst xs (ap (λ (y : A). y ∷ xs) (head-eq-of-cons-eq q)) (sym (tail-eq-of-cons-eq q))
-  stands (x ∷ xs) (b ∷ before) {ys} {after} {e} q = go (head-eq-of-cons-eq q) (stands xs before (tail-eq-of-cons-eq q))
-    where
-      go : x ≡ b → Stands e xs ys before after → Stands e (x ∷ xs) ys (b ∷ before) after
-      go f (inFirst rest p r) = inFirst rest (cc) r
-      go f (inSecond rest p r) = inSecond rest p (cc)
-
   -- each element of a list holds its own, told of all that came before it
   pub data Along (P : List A → A → Type 0) : List A → List A → Type 0 where
     stop : {past : List A} → Along P past []
@@ -164,15 +149,10 @@ module _ (k : ℕ) where
       if-both (λ (x y : List NetEffect). x ≡ y ++ givenTo k fs) (eqb j k)
       (ap (λ (ns : List NetEffect). given ∷ ns) (given-append es fs)) (given-append es fs)
 
-  pub given-made : (os : List RowOperation) → givenTo k (map made os) ≡ []
-  unfolding givenTo
-  given-made [] = refl
-  given-made (o ∷ os) = given-made os
-
-pub joined-append : (h : ℕ) (e : Effect) (ns ms : List NetEffect) → joinedIn h e (ns ++ ms) ≡ joinedIn h (joinedIn h e ns) ms
+pub joinedIn-append : (h : ℕ) (e : Effect) (ns ms : List NetEffect) → joinedIn h e (ns ++ ms) ≡ joinedIn h (joinedIn h e ns) ms
 unfolding joinedIn
-joined-append h e [] ms = refl
-joined-append h e (n ∷ ns) ms = joined-append h (join e (effectAt h n)) ns ms
+joinedIn-append h e [] ms = refl
+joinedIn-append h e (n ∷ ns) ms = joinedIn-append h (join e (effectAt h n)) ns ms
 
 -- ---- The steps of a run, by cases
 

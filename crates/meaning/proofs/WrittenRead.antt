@@ -14,9 +14,10 @@ use Rattle.meaning.specs.Covers.{mostRows, Row, Image}
 use Rattle.meaning.specs.ByteLayouts
 use Rattle.meaning.specs.ByteLayouts.{rising, bytes2, bytes4, valueBytes, rowBytes, rowsBytes, imageBytes}
 use Rattle.meaning.specs.EntryPoints.{runOutput}
+use Rattle.meaning.proofs.Lists.{Each, noElement, anElement}
 use Rattle.meaning.proofs.Made.{Proper, Rising, noRow, above, Sound}
-use Rattle.meaning.proofs.Parsing.{Spans, spans-first, spans-rest, number16-reads, number32-reads, Each, noneLeft, oneMore}
-use Rattle.meaning.proofs.Parsing.{length-bytes2, length-bytes4, framed-found}
+use Rattle.meaning.proofs.Parsing.{Spans, spans-first, spans-rest, number16-reads, number32-reads, length-bytes2, length-bytes4}
+use Rattle.meaning.proofs.Parsing.{framed-found}
 use Rattle.meaning.proofs.RoundTrip.{FitRow, rows-read, imageFields, fieldBytes}
 
 -- ---- What the parser tests
@@ -27,8 +28,8 @@ rises-true noRow = refl
 rises-true {high} {low} (above {r = r} a b p more) = rw (lt-ltb low (r .handle) a, lt-ltb (r .handle) high b) (rises-true more)
 
 rising-fit : {high low : ℕ} {rs : List Row} → high ≤ 4294967296 → Rising high low rs → Each FitRow rs
-rising-fit h noRow = noneLeft
-rising-fit h (above {r = r} a b p more) = oneMore {x = r} (record { handleFits = omega arith; proper = p }) (rising-fit h more)
+rising-fit h noRow = noElement
+rising-fit h (above {r = r} a b p more) = anElement {x = r} (record { handleFits = omega arith; proper = p }) (rising-fit h more)
 
 -- ---- Lengths
 

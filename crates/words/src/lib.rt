@@ -1,9 +1,11 @@
 // Bytes and numbers at places of a slice, and signed 32-bit values as words in two's complement.
 // It stands on no other code; every decoder and every evaluator reads through it. Contracts speak of
 // the specification's numbers: bytes and words of a list, values as integers.
+ghost use mathlib.Core.Bool.{not};
 ghost use mathlib.Core.Path.{_≡_};
 ghost use Prim.Native.Nat.{_+_, _*_, _/_, _%_, _^_, _≤_, _<_};
-ghost use lib.Dec.{leb};
+ghost use lib.Bits.{bitAnd};
+ghost use lib.Dec.{eqb, leb};
 ghost use lib.ListN.{length};
 ghost use lib.Seq.{sets};
 ghost use Rattle.meaning.specs.Base.{bit};
@@ -105,6 +107,13 @@ pub fn has_bit(mask: usize, k: usize) -> bool
     ensures { λ r. ⌜ r ≡ bit mask k ⌝ }
 {
     bit_at(mask, k) == 1
+}
+
+// Whether two masks have a bit in common.
+pub fn meet(a: usize, b: usize) -> bool
+    ensures { λ r. ⌜ r ≡ not (eqb (bitAnd a b) 0) ⌝ }
+{
+    a & b != 0
 }
 
 // The value plus 2147483648: a word whose order is that of the values.

@@ -1,6 +1,7 @@
 -- The row operations of a log operation or an action fit the image one after another: inserted rows take the next handles while there is
 -- room, and deleted or updated rows are live rows with distinct handles, so that each is still there when its turn comes.
 use mathlib.Core.Path.{_≡_, refl, ap, _∙_, subst}
+use mathlib.Core.Logic.{_≢_}
 use mathlib.Core.Bool.{Bool, true, false}
 use mathlib.Core.List.{List, [], _∷_, map}
 use mathlib.Core.Option.{Option, none, some}
@@ -14,9 +15,8 @@ use borrow.Author.Tests.{ltb-false, leb-true, ne-eqb}
 use Rattle.meaning.specs.Base.{if_then_else_, maybe, bit, select, both, eachOr}
 use Rattle.meaning.specs.Values.{inRange, plus}
 use Rattle.meaning.specs.Covers.{mostRows, lastHandle, Row, Image, Source, Term, Query, Expression, Action, LogOperation, Outcome}
-use Rattle.meaning.specs.Covers.{Reason}
-use Rattle.meaning.specs.Covers.{current, inserted, deleted, newUpdated, oldUpdated, fixed, column, sum}
-use Rattle.meaning.specs.Covers.{rollback, insertRow, insertFromQuery, deleteRows, updateRows, insert, delete, update}
+use Rattle.meaning.specs.Covers.{Reason, commit, rolledBack, failed, current, inserted, deleted, newUpdated, oldUpdated, fixed}
+use Rattle.meaning.specs.Covers.{column, sum, rollback, insertRow, insertFromQuery, deleteRows, updateRows, insert, delete, update}
 use Rattle.meaning.specs.Covers.{noSuchRow, full, handlesUsedUp, sumOutOfRange}
 use Rattle.meaning.specs.RowOperations.{RowOperation, inserts, deletes, updates, rowAt, make, makeAll}
 use Rattle.meaning.specs.Processing.TransitionTables.{Transition}
@@ -24,11 +24,12 @@ use Rattle.meaning.specs.Processing.Queries.{cell, sourceRows, allHold, 
 use Rattle.meaning.specs.Processing.Actions.{Result, went, ends, following, andThen, fails, newRows, insertAll, deleteAll, masked}
 use Rattle.meaning.specs.Processing.Actions.{updatedRow, updatesOf, updateAll, operate, rowsOf, perform}
 use Rattle.meaning.specs.Trace.{OnlyIn}
-use Rattle.meaning.proofs.Made.{InRange, noValue, oneMore, Proper, Rising, noRow, above, Sound, insertFits, deleteFits, updateFits}
-use Rattle.meaning.proofs.Made.{Made}
+use Rattle.meaning.proofs.Made.{InRange, Proper, Rising, noRow, above, Sound, insertFits, deleteFits, updateFits, Made}
 use Rattle.meaning.proofs.Made as Of
-use Rattle.meaning.proofs.FitsImages.{Each, noElement, anElement, each-select, rising-proper, look-here, look-past, found-so}
-use Rattle.meaning.proofs.FitsImages.{found-handle, clash, same-some, without-other, withRow-other, makeAll-sound, made-append}
+use Rattle.meaning.proofs.Lists.{clash, same-some, Each, noElement, anElement, each-select, eqb-self}
+use Rattle.meaning.proofs.Lookups.{rowAt-head, rowAt-skip, found-so, found-handle, rowAt-without-other, rowAt-withRow-other}
+use Rattle.meaning.proofs.Lookups.{made-append}
+use Rattle.meaning.proofs.Images.{rising-proper, makeAll-sound}
 
 -- ---- What parsers yield
 
@@ -58,13 +59,20 @@ pub data GoodAction : Action → Type 0 where
 
 -- ---- Results whose operations fit
 
+-- and that end the run, if they do, without a commit
 pub data MadeOf (m : Image) : Result → Type 0 where
   wentMade : {os : List RowOperation} → Made m os → MadeOf m (went os)
-  endsMade : {o : Outcome} {os : List RowOperation} → Made m os → MadeOf m (ends o os)
+  endsMade : {o : Outcome} {os : List RowOperation} → o ≢ commit → Made m os → MadeOf m (ends o os)
+
+failed-no-commit : (r : Reason) → failed r ≢ commit
+failed-no-commit r q = absurd (let z : _≡_ {A = ℕ} 0 1 = cc in omega arith)
+
+rollback-no-commit : rolledBack ≢ commit
+rollback-no-commit q = absurd (let z : _≡_ {A = ℕ} 0 1 = cc in omega arith)
 
 pub fails-made : {m : Image} (r : Reason) → MadeOf m (fails r)
 unfolding fails
-fails-made r = endsMade Of.none
+fails-made r = endsMade (failed-no-commit r) Of.none
 
 pub if-made : {m : Image} {x y : Result} (b : Bool) → (b ≡ true → MadeOf m x) → (b ≡ false → MadeOf m y) → MadeOf m (if b then x else y)
 if-made true p q = p refl
@@ -78,13 +86,13 @@ maybe-made (some a) p q = q a refl
 following-made : {m : Image} {os : List RowOperation} {r : Result} → Made m os → MadeOf (makeAll os m) r → MadeOf m (following os r)
 unfolding following
 following-made g (wentMade h) = wentMade (made-append g h)
-following-made g (endsMade h) = endsMade (made-append g h)
+following-made g (endsMade n h) = endsMade n (made-append g h)
 
 pub andThen-made : {m : Image} {r : Result} {f : Image → Result} → Sound m → MadeOf m r → ((n : Image) → Sound n → MadeOf n (f n))
     → MadeOf m (andThen m r f)
 unfolding andThen
 andThen-made {m} s (wentMade {os = os} g) k = following-made g (k (makeAll os m) (makeAll-sound s g))
-andThen-made s (endsMade g) k = endsMade g
+andThen-made s (endsMade n g) k = endsMade n g
 
 -- ---- Insert
 
@@ -136,8 +144,8 @@ taken-in {rows′ = rows′} f (oneTaken {low = low} {r = r} a p q c) =
 pub rising-taken : {high low : ℕ} {rows : List Row} → Rising high low rows → Taken rows low rows
 rising-taken noRow = noneTaken
 rising-taken (above {r = r} {rs = rs} a b p c) =
-    oneTaken {r = r} a p (look-here (r .handle) r rs refl)
-    (taken-in (λ h l. look-past h r rs (ne-eqb (r .handle) h (λ e. omega arith))) (rising-taken c))
+    oneTaken {r = r} a p (rowAt-head (r .handle) r rs (eqb-self (r .handle)))
+    (taken-in (λ h l. rowAt-skip h r rs (ne-eqb (r .handle) h (λ e. omega arith))) (rising-taken c))
 
 -- one row that a lookup has found
 one-taken : (m : Image) (h : ℕ) (r : Row) → Sound m → rowAt h (m .rows) ≡ some r → Taken (m .rows) 0 (r ∷ [])
@@ -163,7 +171,8 @@ unfolding make
 deletes-made [] m noneTaken = Of.none
 deletes-made (r ∷ rs) m (oneTaken a p q c) =
     Of.more (deleteFits q)
-    (deletes-made rs (make (deletes r) m) (taken-in (λ h l. without-other (r .handle) h (m .rows) (λ e. omega arith)) c))
+    (deletes-made rs (make (deletes r) m)
+    (taken-in (λ h l. rowAt-without-other h (r .handle) (m .rows) (ne-eqb (r .handle) h (λ e. omega arith))) c))
 
 pub deleteAll-made : {low : ℕ} (rs : List Row) (m : Image) → Taken (m .rows) low rs → MadeOf m (deleteAll rs)
 unfolding deleteAll
@@ -184,15 +193,15 @@ masked-length mask c (v ∷ vs) (o ∷ os) = go (bit mask c) (masked-length mask
 
 masked-range : (mask c : ℕ) (vs olds : List ℤ) → InRange vs → InRange olds → InRange (masked mask c vs olds)
 unfolding masked
-masked-range mask c vs [] f g = noValue
+masked-range mask c vs [] f g = noElement
 masked-range mask c [] (o ∷ os) f g = g
-masked-range mask c (v ∷ vs) (o ∷ os) (oneMore a f) (oneMore b g) =
-    go (bit mask c) (masked-range mask (suc c) vs os f g) (masked-range mask (suc c) (v ∷ vs) os (oneMore a f) g)
+masked-range mask c (v ∷ vs) (o ∷ os) (anElement a f) (anElement b g) =
+    go (bit mask c) (masked-range mask (suc c) vs os f g) (masked-range mask (suc c) (v ∷ vs) os (anElement a f) g)
   where
     go : (t : Bool) → InRange (masked mask (suc c) vs os) → InRange (masked mask (suc c) (v ∷ vs) os)
         → InRange (if t then v ∷ masked mask (suc c) vs os else o ∷ masked mask (suc c) (v ∷ vs) os)
-    go true p q = oneMore a p
-    go false p q = oneMore b q
+    go true p q = anElement a p
+    go false p q = anElement b q
 
 unlisted : (mask : ℕ) {c d : ℕ} → c ≡ d → bit mask c ≡ false → bit mask d ≡ false
 unlisted mask k e = subst (λ (n : ℕ). bit mask n ≡ false) k e
@@ -245,7 +254,7 @@ updates-made mask (r ∷ rs) (vs ∷ vss) m (oneTaken a p q c) (anElement f fs) 
     let only = updatedRow-only mask vs r in
     Of.more (updateFits q only (updatedRow-proper mask vs r f p))
     (updates-made mask rs vss (make (updates mask r new) m)
-    (taken-in (λ h l. withRow-other (r .handle) h new (m .rows) (only .sameHandle) (λ e. omega arith)) c) fs)
+    (taken-in (λ h l. rowAt-withRow-other h (r .handle) new (m .rows) (only .sameHandle) (ne-eqb (r .handle) h (λ e. omega arith))) c) fs)
 
 pub updateAll-made : {low : ℕ} (mask : ℕ) (rs : List Row) (vss : List (List ℤ)) (m : Image) → Taken (m .rows) low rs → Each InRange vss
     → MadeOf m (updateAll mask rs vss)
@@ -285,9 +294,9 @@ unfolding cell
 cell-range r c f = go (r .values) c f
   where
     go : (vs : List ℤ) (c : ℕ) → InRange vs → mag (getD vs c (pos 0)) ≤ 2147483647
-    go [] c noValue = omega arith
-    go (v ∷ vs) zero (oneMore a f) = a
-    go (v ∷ vs) (suc c) (oneMore a f) = go vs c f
+    go [] c noElement = omega arith
+    go (v ∷ vs) zero (anElement a f) = a
+    go (v ∷ vs) (suc c) (anElement a f) = go vs c f
 
 pub plus-range : (a b v : ℤ) → plus a b ≡ some v → mag v ≤ 2147483647
 unfolding plus inRange
@@ -303,16 +312,10 @@ workOut-range r (fixed w) v p (goodFixed l) q = subst (λ z. mag z ≤ 214748364
 workOut-range r (column c) v p goodColumn q = subst (λ z. mag z ≤ 2147483647) (same-some q) (cell-range r c (p .inRange))
 workOut-range r (sum c w) v p goodSum q = plus-range (cell r c) w v q
 
-pub each-range : {vs : List ℤ} → Each (λ v. mag v ≤ 2147483647) vs → InRange vs
-each-range noElement = noValue
-each-range (anElement a rest) = oneMore a (each-range rest)
-
 pub workOutAll-range : (es : List Expression) (r : Row) (vs : List ℤ) → Proper r → Each GoodExpression es → workOutAll es r ≡ some vs
     → (length vs ≡ length es) × InRange vs
 unfolding workOutAll
-workOutAll-range es r vs p g q =
-    let w = each-result (workOut r) vs (λ e v l f. workOut-range r e v p l f) g q in
-    (w .0, each-range (w .1))
+workOutAll-range es r vs p g q = each-result (workOut r) vs (λ e v l f. workOut-range r e v p l f) g q
 
 -- ---- The rows that a query shows
 
@@ -343,7 +346,7 @@ chosen-taken t m n ts s = taken-select (allHold t (m .rows) ts) (taken-select (�
 
 pub perform-made : (t : Transition) (a : Action) (m : Image) → ProperTables t → GoodAction a → Sound m → MadeOf m (perform t a m)
 unfolding perform
-perform-made t rollback m p goodRollback s = endsMade Of.none
+perform-made t rollback m p goodRollback s = endsMade rollback-no-commit Of.none
 perform-made t (insertRow n vs) m p (goodInsertRow l f) s = insertAll-made n (vs ∷ []) m l (anElement f noElement)
 perform-made t (insertFromQuery n q es) m p (goodInsertFrom l k g) s =
     maybe-made (eachOr (workOutAll es) (chosen t (m .rows) q)) (fails-made sumOutOfRange) (λ vss e.

@@ -1,6 +1,6 @@
--- Membership, `any (eqb k) xs`, and tests over lists: what `++`, `firstWith`, `all` and `upFrom` say of them, by induction on the list.
--- Distinct numbers that all stand in a list are no more than it has, as each takes away another of its elements.
-use mathlib.Core.Path.{_≡_, refl, sym, ap, _∙_}
+-- Laws of Bools, optional values and lists: lists of which each element is so, tests over lists, and membership, `any (eqb k) xs`, all by
+-- induction. Distinct numbers that all stand in a list are no more than it has, as each takes away another of its elements.
+use mathlib.Core.Path.{_≡_, refl, sym, ap, _∙_, subst}
 use mathlib.Core.Bool.{Bool, true, false, _&&_, _||_}
 use mathlib.Core.List.{List, [], _∷_, _++_}
 use mathlib.Core.Logic.{_⊎_, inl, inr}
@@ -8,9 +8,9 @@ use mathlib.Core.Option.{Option, none, some}
 use Prim.Native.Nat.{ℕ, zero, suc, _+_, _≤_, _<_}
 use native.Mathlib.Omega.{arith}
 use lib.Dec.{eqb}
-use lib.ListN.{length}
+use lib.ListN.{length, drop, getElem?}
 use borrow.Author.Tests.{eqb-true, eqb-false, eq-eqb}
-use Rattle.meaning.specs.Base.{if_then_else_, upFrom, any, all, firstWith}
+use Rattle.meaning.specs.Base.{if_then_else_, upFrom, any, all, select, firstWith}
 
 -- ---- Bools
 
@@ -40,6 +40,46 @@ pub and-false : (a b : Bool) → a && b ≡ false → (a ≡ false) ⊎ (b ≡ f
 and-false true b h = inr h
 and-false false b h = inl refl
 
+-- ---- Optional values
+
+-- none and some differ
+pub clash {ℓ} : {X : Type ℓ} {A : Type 0} {a : A} {o : Option A} → o ≡ none → o ≡ some a → X
+clash p q = absurd (let z : _≡_ {A = ℕ} 0 1 = cc in omega arith)
+
+pub same-some : {A : Type 0} {a b : A} → _≡_ {A = Option A} (some a) (some b) → a ≡ b
+same-some e = cc
+
+-- what is found at a place stands below the end
+pub there-below : {A : Type 0} (xs : List A) (k : ℕ) (x : A) → getElem? xs k ≡ some x → k < length xs
+there-below [] k x q = clash refl q
+there-below (y ∷ ys) zero x q = omega arith
+there-below (y ∷ ys) (suc k) x q = let h = there-below ys k x q in omega arith
+
+-- ---- Lists of which each element is so
+
+pub data Each {A : Type 0} (P : A → Type 0) : List A → Type 0 where
+  noElement : Each P []
+  anElement : {x : A} {xs : List A} → P x → Each P xs → Each P (x ∷ xs)
+
+module _ {A : Type 0} {P : A → Type 0} where
+  pub each-select : {xs : List A} (p : A → Bool) → Each P xs → Each P (select p xs)
+  each-select p noElement = noElement
+  each-select p (anElement {x = x} {xs = xs} a rest) = go (p x) (each-select p rest)
+    where
+      go : (b : Bool) → Each P (select p xs) → Each P (if b then x ∷ select p xs else select p xs)
+      go true ih = anElement a ih
+      go false ih = ih
+
+  pub each-drop : {xs : List A} (n : ℕ) → Each P xs → Each P (drop n xs)
+  each-drop zero rest = rest
+  each-drop (suc n) noElement = noElement
+  each-drop (suc n) (anElement a rest) = each-drop n rest
+
+  pub each-element : {xs : List A} {x : A} (k : ℕ) → Each P xs → getElem? xs k ≡ some x → P x
+  each-element k noElement q = absurd (let z : _≡_ {A = ℕ} 0 1 = cc in omega arith)
+  each-element zero (anElement {x = y} a rest) q = subst P (cc) a
+  each-element (suc k) (anElement a rest) q = each-element k rest q
+
 -- ---- Tests over any list
 
 module _ {A : Type 0} (p : A → Bool) where
@@ -56,9 +96,6 @@ module _ {A : Type 0} (p : A → Bool) where
 
   pub any-back : (xs ys : List A) → any p ys ≡ true → any p (xs ++ ys) ≡ true
   any-back xs ys h = rw (any-append xs ys) (or-right (any p xs) (any p ys) h)
-
-  pub none-append : (xs ys : List A) → any p (xs ++ ys) ≡ false → (any p xs ≡ false) × (any p ys ≡ false)
-  none-append xs ys h = or-false (any p xs) (any p ys) (rw (any-append xs ys) at h)
 
   -- an element that passes, and that none before it does
   pub record First (xs : List A) (x : A) : Type 0 where

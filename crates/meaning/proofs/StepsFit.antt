@@ -2,30 +2,32 @@
 -- A rule's transition tables hold live rows, and rows that an operation deleted or updated when they were live: all of them are proper.
 use mathlib.Core.Path.{_≡_, refl, sym, ap, _∙_, subst}
 use mathlib.Core.Bool.{Bool, true, false}
-use mathlib.Core.List.{List, [], _∷_, _++_, map, append-nil, append-assoc}
+use mathlib.Core.Logic.{_≢_}
+use mathlib.Core.List.{List, [], _∷_, _++_, append-nil, append-assoc}
 use mathlib.Core.Option.{Option, none, some}
-use Prim.Native.Nat.{ℕ, zero, suc}
+use Prim.Native.Nat.{ℕ, suc}
 use lib.Dec.{eqb}
 use lib.ListN.{getD, getElem?}
 use Rattle.meaning.specs.Base.{if_then_else_, maybe, before, gather}
 use Rattle.meaning.specs.Covers.{Row, Image, Rule, Action, LogOperation, Outcome, commit, stepLimit}
 use Rattle.meaning.specs.RowOperations.{RowOperation, inserts, deletes, updates, Effect, NetEffect, nothing, inserted, deleted}
-use Rattle.meaning.specs.RowOperations.{updated}
-use Rattle.meaning.specs.RowOperations.{handleOf, rowAt, makeAll, kind, joinKind, over, joinedAs, join, effectOf, single, joinedOn}
-use Rattle.meaning.specs.RowOperations.{net, named, entry, entries, netEffect}
-use Rattle.meaning.specs.Processing.{State, Event, made, considered, Ending, ended, afterEvents, since, waits, runLog, conditionHolds}
-use Rattle.meaning.specs.Processing.{runActions, considerWith, considerRule, consider, moved, consideration, firstTriggered, steps}
-use Rattle.meaning.specs.Processing.{afterLog, process}
+use Rattle.meaning.specs.RowOperations.{updated, handleOf, rowAt, makeAll, kind, joinKind, over, joinedAs, join, effectOf, single}
+use Rattle.meaning.specs.RowOperations.{joinedOn, net, named, entry, entries, netEffect}
+use Rattle.meaning.specs.Processing.{State, Event, Ending, ended, afterEvents, since, waits, runLog, conditionHolds, runActions}
+use Rattle.meaning.specs.Processing.{considerWith, considerRule, consider, moved, consideration, afterLog}
 use Rattle.meaning.specs.Processing.TransitionTables.{Transition, meets, ownTable, ownRow, deletedRow, oldRow, liveRow, insertedRow}
 use Rattle.meaning.specs.Processing.TransitionTables.{newRow, transition}
-use Rattle.meaning.specs.Processing.Actions.{Result, went, ends, onward}
+use Rattle.meaning.specs.Processing.Actions.{went, ends}
 use Rattle.meaning.specs.Trace.{operationsIn}
 use Rattle.meaning.proofs.Made.{Proper, Sound, deleteFits, updateFits, Made}
 use Rattle.meaning.proofs.Made as Of
-use Rattle.meaning.proofs.FitsImages.{Each, noElement, anElement, each-drop, each-element, rising-proper, found-so, clash, same-some}
-use Rattle.meaning.proofs.FitsImages.{make-sound, makeAll-sound, makeAll-append, made-append}
-use Rattle.meaning.proofs.FitsActions.{GoodOperation, GoodAction, MadeOf, wentMade, endsMade, if-made, maybe-made, andThen-made}
-use Rattle.meaning.proofs.FitsActions.{operate-made, perform-made, ProperTables}
+use Rattle.meaning.proofs.Lists.{clash, same-some, Each, noElement, anElement, each-drop, each-element}
+use Rattle.meaning.proofs.Lookups.{found-so, makeAll-append, made-append}
+use Rattle.meaning.proofs.Images.{rising-proper, make-sound, makeAll-sound}
+use Rattle.meaning.proofs.Traces.{operations-append, operations-made, Steps, commits, meetsLimit, endsRun, goesOn, Runs, logEnds}
+use Rattle.meaning.proofs.Traces.{logDone}
+use Rattle.meaning.proofs.ActionsFit.{GoodOperation, GoodAction, MadeOf, wentMade, endsMade, if-made, maybe-made, andThen-made}
+use Rattle.meaning.proofs.ActionsFit.{operate-made, perform-made, ProperTables}
 
 -- ---- The rows of effects
 
@@ -195,19 +197,6 @@ considerRule-made r given m g f s =
     let p = transition-proper r (m .rows) (rising-proper (s .rises)) given f in
     if-made (conditionHolds t (m .rows) (r .condition)) (λ e. runActions-made t (r .actions) m p (g .actionsGood) s) (λ e. wentMade Of.none)
 
--- ---- The operations of a trace
-
-pub operationsIn-append : (xs ys : List Event) → operationsIn (xs ++ ys) ≡ operationsIn xs ++ operationsIn ys
-unfolding operationsIn
-operationsIn-append [] ys = refl
-operationsIn-append (made o ∷ xs) ys = ap (λ (os : List RowOperation). o ∷ os) (operationsIn-append xs ys)
-operationsIn-append (considered k given ∷ xs) ys = operationsIn-append xs ys
-
-pub operationsIn-made : (os : List RowOperation) → operationsIn (map made os) ≡ os
-unfolding operationsIn
-operationsIn-made [] = refl
-operationsIn-made (o ∷ os) = ap (λ (xs : List RowOperation). o ∷ xs) (operationsIn-made os)
-
 -- ---- The steps
 
 -- after the operations of before, those of the ending fit, and its image is the start image with all of them made on it
@@ -227,84 +216,84 @@ replays-after : (start : Image) (before new : List RowOperation) (es : List Even
 unfolding afterEvents ended
 replays-after start before new es e q r =
     let same : before ++ operationsIn (es ++ e .trace) ≡ (before ++ new) ++ operationsIn (e .trace) =
-    rw (operationsIn-append es (e .trace), q) (sym (append-assoc before new (operationsIn (e .trace)))) in
+    rw (operations-append es (e .trace), q) (sym (append-assoc before new (operationsIn (e .trace)))) in
     record { fits = rw same (r .fits); replayed = rw same (r .replayed) }
 
 module _ (rules : List Rule) (order : List ℕ) (start : Image) (good : Each GoodRule rules) (sound : Sound start) where
   -- the operations so far fit, and the image is the start image with them made on it
-  pub record Along (s : State) : Type 0 where
+  pub record Built (s : State) : Type 0 where
     pub doneFits : Made start (s .done)
     pub imageIs : s .image ≡ makeAll (s .done) start
 
-  waits-proper : (s : State) (k : ℕ) → Along s → Each (λ p. RowOf Proper (p .1)) (waits s k)
+  waits-proper : (s : State) (k : ℕ) → Built s → Each (λ p. RowOf Proper (p .1)) (waits s k)
   unfolding waits since
   waits-proper s k a = netEffect-row (since s k) (each-drop (getD (s .marks) k 0) (made-rows sound (a .doneFits)))
 
-  along-sound : (s : State) → Along s → Sound (s .image)
-  along-sound s a = rw (a .imageIs) (makeAll-sound sound (a .doneFits))
-
-  consider-made : (s : State) (k : ℕ) → Along s → MadeOf (s .image) (consider rules s k)
+  consider-made : (s : State) (k : ℕ) → Built s → MadeOf (s .image) (consider rules s k)
   unfolding consider
   consider-made s k a =
       maybe-made (getElem? rules k) (wentMade Of.none)
-      (λ r e. considerRule-made r (waits s k) (s .image) (each-element k good e) (waits-proper s k a) (along-sound s a))
-
-  -- new operations on the image so far
-  further-fits : (s : State) (new : List RowOperation) → Along s → Made (s .image) new → Made start (s .done ++ new)
-  further-fits s new a g = made-append (a .doneFits) (subst (λ (m : Image). Made m new) (a .imageIs) g)
-
-  further-image : (s : State) (new : List RowOperation) → Along s → makeAll new (s .image) ≡ makeAll (s .done ++ new) start
-  further-image s new a = ap (makeAll new) (a .imageIs) ∙ sym (makeAll-append (s .done) new start)
-
-  along-moved : (s : State) (k : ℕ) (new : List RowOperation) → Along s → Made (s .image) new → Along (moved rules s k new)
-  unfolding moved
-  along-moved s k new a g = record { doneFits = further-fits s new a g; imageIs = further-image s new a }
+      (λ r e. considerRule-made r (waits s k) (s .image) (each-element k good e) (waits-proper s k a)
+      (rw (a .imageIs) (makeAll-sound sound (a .doneFits))))
 
   consideration-operations : (s : State) (k : ℕ) (new : List RowOperation) → operationsIn (consideration rules s k new) ≡ new
   unfolding consideration operationsIn
-  consideration-operations s k new = operationsIn-made new
+  consideration-operations s k new = operations-made new
 
-  replays-now : (s : State) (o : Outcome) (n : ℕ) → Along s → Replays start (s .done) (ended o n (s .image) [])
-  unfolding operationsIn
-  replays-now s o n a =
-      replays-ended start (s .done) [] o n (s .image) [] refl (rw append-nil (a .doneFits)) (rw append-nil (a .imageIs))
+  module _ {s : State} (a : Built s) where
+    -- new operations on the image so far
+    further-fits : {new : List RowOperation} → Made (s .image) new → Made start (s .done ++ new)
+    further-fits {new} g = made-append (a .doneFits) (subst (λ (m : Image). Made m new) (a .imageIs) g)
 
-  pub steps-replay : (left count : ℕ) (s : State) → Along s → Replays start (s .done) (steps rules order left count s)
-  unfolding steps onward moved
-  steps-replay zero count s a = go (firstTriggered rules order s)
-    where
-      go : (o : Option ℕ) → Replays start (s .done) (maybe o (ended commit count (s .image) []) (λ k. ended stepLimit count (s .image) []))
-      go none = replays-now s commit count a
-      go (some k) = replays-now s stepLimit count a
-  steps-replay (suc left) count s a = go (firstTriggered rules order s) (λ t b. steps-replay left (suc count) t b)
-    where
-      on : (k : ℕ) (r : Result) → MadeOf (s .image) r
-          → ((t : State) → Along t → Replays start (t .done) (steps rules order left (suc count) t))
-          → Replays start (s .done) (onward r
-          (λ new. afterEvents (consideration rules s k new) (steps rules order left (suc count) (moved rules s k new)))
-          (λ o new. ended o (suc count) (makeAll new (s .image)) (consideration rules s k new)))
-      on k (went new) (wentMade g) ih =
-          replays-after start (s .done) new _ _ (consideration-operations s k new) (ih (moved rules s k new) (along-moved s k new a g))
-      on k (ends o new) (endsMade g) ih =
-          replays-ended start (s .done) new o (suc count) _ _ (consideration-operations s k new)
-          (further-fits s new a g) (further-image s new a)
+    further-image : (new : List RowOperation) → makeAll new (s .image) ≡ makeAll (s .done ++ new) start
+    further-image new = ap (makeAll new) (a .imageIs) ∙ sym (makeAll-append (s .done) new start)
 
-      go : (o : Option ℕ) → ((t : State) → Along t → Replays start (t .done) (steps rules order left (suc count) t))
-          → Replays start (s .done) (maybe o (ended commit count (s .image) []) (λ k. onward (consider rules s k)
-          (λ new. afterEvents (consideration rules s k new) (steps rules order left (suc count) (moved rules s k new)))
-          (λ o new. ended o (suc count) (makeAll new (s .image)) (consideration rules s k new))))
-      go none ih = replays-now s commit count a
-      go (some k) ih = on k (consider rules s k) (consider-made s k a) ih
+    -- a consideration goes on with operations that fit
+    pub built-moved : (k : ℕ) {new : List RowOperation} → consider rules s k ≡ went new → Built (moved rules s k new)
+    unfolding moved
+    built-moved k {new} c = go (rw c at (consider-made s k a))
+      where
+        go : MadeOf (s .image) (went new) → Built (moved rules s k new)
+        go (wentMade g) = record { doneFits = further-fits g; imageIs = further-image new }
 
-  pub process-replays : (limit : ℕ) (log : List LogOperation) → Each GoodOperation log
-      → Replays start [] (process rules order limit log start)
-  unfolding process onward afterLog
-  process-replays limit log g = on (runLog log start) (runLog-made log start g sound)
-    where
-      on : (r : Result) → MadeOf start r → Replays start [] (onward r
-          (λ new. afterEvents (map made new) (steps rules order limit 0 (afterLog rules order start new)))
-          (λ o new. ended o 0 (makeAll new start) (map made new)))
-      on (went new) (wentMade f) =
-          replays-after start [] new _ _ (operationsIn-made new)
-          (steps-replay limit 0 (afterLog rules order start new) (record { doneFits = f; imageIs = refl }))
-      on (ends o new) (endsMade f) = replays-ended start [] new o 0 _ _ (operationsIn-made new) f refl
+    -- or ends the run, and not with a commit
+    pub consider-ends : (k : ℕ) {o : Outcome} {new : List RowOperation} → consider rules s k ≡ ends o new
+        → (o ≢ commit) × Made start (s .done ++ new)
+    consider-ends k {o} {new} c = go (rw c at (consider-made s k a))
+      where
+        go : MadeOf (s .image) (ends o new) → (o ≢ commit) × Made start (s .done ++ new)
+        go (endsMade n g) = (n, further-fits g)
+
+    replays-now : (o : Outcome) (n : ℕ) → Replays start (s .done) (ended o n (s .image) [])
+    unfolding operationsIn
+    replays-now o n =
+        replays-ended start (s .done) [] o n (s .image) [] refl (rw append-nil (a .doneFits)) (rw append-nil (a .imageIs))
+
+  pub steps-replay : {left count : ℕ} {s : State} {e : Ending} → Steps rules order left count s e → Built s → Replays start (s .done) e
+  unfolding moved
+  steps-replay (commits {count = n} t) a = replays-now a commit n
+  steps-replay (meetsLimit {count = n} t) a = replays-now a stepLimit n
+  steps-replay (endsRun {count = n} {k = k} {s = s} {o = o} {new = new} t c) a =
+      replays-ended start (s .done) new o (suc n) _ _ (consideration-operations s k new) (consider-ends a k c .1) (further-image a new)
+  steps-replay (goesOn {k = k} {s = s} {new = new} {e = e} t c more) a =
+      replays-after start (s .done) new _ e (consideration-operations s k new) (steps-replay more (built-moved a k c))
+
+  module _ {log : List LogOperation} (goodLog : Each GoodOperation log) where
+    pub built-log : {new : List RowOperation} → runLog log start ≡ went new → Built (afterLog rules order start new)
+    unfolding afterLog
+    built-log {new} l = go (rw l at (runLog-made log start goodLog sound))
+      where
+        go : MadeOf start (went new) → Built (afterLog rules order start new)
+        go (wentMade g) = record { doneFits = g; imageIs = refl }
+
+    pub log-ends : {o : Outcome} {new : List RowOperation} → runLog log start ≡ ends o new → (o ≢ commit) × Made start new
+    log-ends {o} {new} l = go (rw l at (runLog-made log start goodLog sound))
+      where
+        go : MadeOf start (ends o new) → (o ≢ commit) × Made start new
+        go (endsMade n g) = (n, g)
+
+    pub runs-replay : {limit : ℕ} {e : Ending} → Runs rules order limit log start e → Replays start [] e
+    unfolding afterLog
+    runs-replay (logEnds {o = o} {new = new} l) = replays-ended start [] new o 0 _ _ (operations-made new) (log-ends l .1) refl
+    runs-replay (logDone {new = new} {e = e} l more) =
+        replays-after start [] new _ e (operations-made new) (steps-replay more (built-log l))

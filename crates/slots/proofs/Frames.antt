@@ -1,0 +1,198 @@
+-- Frames compose and widen, and what stands outside a frame stays: a word, a slot. A store of a word changes its four bytes alone,
+-- and the six stores of a slot its twenty-four, since each store leaves the words before it as they were.
+use mathlib.Core.Path.{_≡_, refl, _∙_}
+use mathlib.Core.List.{List}
+use Prim.Native.Nat.{ℕ, _+_, _/_, _%_, _≤_, _<_}
+use native.Mathlib.Omega.{arith}
+use borrow.Author.Tests.{ltb-true, ltb-false}
+use lib.Dec.{ltb}
+use lib.ListN.{length}
+use lib.Seq.{sets, length-sets, ext-getD}
+use Rattle.meaning.specs.ByteLayouts.{bytes4}
+use Rattle.words.specs.Words.{Bytes, word32At}
+use Rattle.words.proofs.Laws.{split, word32-lt, read-written32, written32-below, written32-above}
+use Rattle.slots.specs.declared.Slot.{Slot}
+use Rattle.slots.specs.Slots.{slotAt, Frame, Stored, blank}
+
+-- ---- Frames
+
+pub frame-refl : {lo hi : ℕ} {xs : List ℕ} → Frame lo hi xs xs
+frame-refl = record { len = refl; below = λ k h. refl; above = λ k h. refl }
+
+pub frame-trans : {lo hi : ℕ} {xs ys zs : List ℕ} → Frame lo hi xs ys → Frame lo hi ys zs → Frame lo hi xs zs
+frame-trans f g =
+    record {
+      len = g .len ∙ f .len;
+      below = λ k h. g .below k h ∙ f .below k h;
+      above = λ k h. g .above k h ∙ f .above k h;
+    }
+
+pub frame-wider : {lo hi lo′ hi′ : ℕ} {xs ys : List ℕ} → Frame lo hi xs ys → lo′ ≤ lo → hi ≤ hi′ → Frame lo′ hi′ xs ys
+frame-wider f a b =
+    record { len = f .len; below = λ k h. f .below k (omega arith); above = λ k h. f .above k (omega arith) }
+
+-- a change in each of two ranges, apart or not, is one in a range that has both
+pub frame-join : {lo hi lo₁ hi₁ lo₂ hi₂ : ℕ} {xs ys zs : List ℕ} → Frame lo₁ hi₁ xs ys → Frame lo₂ hi₂ ys zs
+    → lo ≤ lo₁ → hi₁ ≤ hi → lo ≤ lo₂ → hi₂ ≤ hi → Frame lo hi xs zs
+frame-join f g a b c d = frame-trans (frame-wider f a b) (frame-wider g c d)
+
+-- what changes only in each of two ranges that are apart changes nowhere
+pub frame-apart : {lo₁ hi₁ lo₂ hi₂ : ℕ} {xs ys : List ℕ} → Frame lo₁ hi₁ xs ys → Frame lo₂ hi₂ xs ys → hi₁ ≤ lo₂ → ys ≡ xs
+frame-apart {lo₁} {hi₁} {lo₂} {hi₂} {xs} {ys} f g h =
+    ext-getD 0 ys xs (f .len) (λ k b.
+    split (ltb k lo₂)
+    (λ e. g .below k (ltb-true k lo₂ e))
+    (λ e. f .above k (omega (arith, ltb-false k lo₂ e))))
+
+-- ---- What stands outside a frame
+
+module _ {lo hi : ℕ} {xs ys : List ℕ} (f : Frame lo hi xs ys) (at : ℕ) where
+  pub word-kept-below : at + 4 ≤ lo → word32At ys at ≡ word32At xs at
+  unfolding word32At
+  word-kept-below h =
+      rw (
+        f .below at (omega arith),
+        f .below (at + 1) (omega arith),
+        f .below (at + 2) (omega arith),
+        f .below (at + 3) (omega arith),
+      )
+
+  pub word-kept-above : hi ≤ at → word32At ys at ≡ word32At xs at
+  unfolding word32At
+  word-kept-above h =
+      rw (
+        f .above at (omega arith),
+        f .above (at + 1) (omega arith),
+        f .above (at + 2) (omega arith),
+        f .above (at + 3) (omega arith),
+      )
+
+module _ {lo hi : ℕ} {xs ys : List ℕ} (f : Frame lo hi xs ys) (at : ℕ) where
+  pub slot-kept-below : at + 24 ≤ lo → slotAt ys at ≡ slotAt xs at
+  unfolding slotAt
+  slot-kept-below h =
+      rw (
+        word-kept-below f at (omega arith),
+        word-kept-below f (at + 4) (omega arith),
+        word-kept-below f (at + 8) (omega arith),
+        word-kept-below f (at + 12) (omega arith),
+        word-kept-below f (at + 16) (omega arith),
+        word-kept-below f (at + 20) (omega arith),
+      )
+
+  pub slot-kept-above : hi ≤ at → slotAt ys at ≡ slotAt xs at
+  unfolding slotAt
+  slot-kept-above h =
+      rw (
+        word-kept-above f at (omega arith),
+        word-kept-above f (at + 4) (omega arith),
+        word-kept-above f (at + 8) (omega arith),
+        word-kept-above f (at + 12) (omega arith),
+        word-kept-above f (at + 16) (omega arith),
+        word-kept-above f (at + 20) (omega arith),
+      )
+
+-- ---- A slot's fields fit their types
+
+pub record Fits (e : Slot) : Type 0 where
+  pub handle : e .handle < 4294967296
+  pub kind : e .kind < 256
+  pub mask : e .mask < 256
+  pub table : e .table < 256
+  pub v0 : e .v0 < 4294967296
+  pub v1 : e .v1 < 4294967296
+  pub v2 : e .v2 < 4294967296
+  pub v3 : e .v3 < 4294967296
+
+pub slot-fits : (xs : List ℕ) → Bytes xs → (at : ℕ) → Fits (slotAt xs at)
+unfolding slotAt
+slot-fits xs b at =
+    record {
+      handle = word32-lt xs b at;
+      kind = omega arith;
+      mask = omega arith;
+      table = omega arith;
+      v0 = word32-lt xs b (at + 8);
+      v1 = word32-lt xs b (at + 12);
+      v2 = word32-lt xs b (at + 16);
+      v3 = word32-lt xs b (at + 20);
+    }
+
+pub blank-fits : Fits blank
+blank-fits =
+    record {
+      handle = omega arith;
+      kind = omega arith;
+      mask = omega arith;
+      table = omega arith;
+      v0 = omega arith;
+      v1 = omega arith;
+      v2 = omega arith;
+      v3 = omega arith;
+    }
+
+-- ---- Stores
+
+-- the word at a place was stored, and nothing else changed
+pub record PutWord (xs ys : List ℕ) (at v : ℕ) : Type 0 where
+  pub frame : Frame at (at + 4) xs ys
+  pub same : word32At ys at ≡ v
+
+pub word-put : {xs ys : List ℕ} (at v : ℕ) → v < 4294967296 → at + 4 ≤ length xs → ys ≡ sets xs at (bytes4 v) → PutWord xs ys at v
+word-put {xs} {ys} at v small fits e =
+    rw e
+    (record {
+      frame =
+          record {
+            len = length-sets xs at (bytes4 v);
+            below = λ k h. written32-below xs at v k 0 h;
+            above = λ k h. written32-above xs at v k 0 h;
+          };
+      same = read-written32 xs at v small fits;
+    })
+
+-- the six words of a slot, one after another
+module _ (at w : ℕ) (e : Slot) where
+  words-put : {x0 x1 x2 x3 x4 x5 x6 : List ℕ} → PutWord x0 x1 at (e .handle) → PutWord x1 x2 (at + 4) w → PutWord x2 x3 (at + 8) (e .v0)
+      → PutWord x3 x4 (at + 12) (e .v1) → PutWord x4 x5 (at + 16) (e .v2) → PutWord x5 x6 (at + 20) (e .v3)
+      → w / 16777216 % 256 ≡ e .kind → w / 65536 % 256 ≡ e .mask → w / 256 % 256 ≡ e .table → Stored x0 x6 at e
+  unfolding slotAt
+  words-put {x0} {x1} {x2} {x3} {x4} {x5} {x6} p1 p2 p3 p4 p5 p6 hk hm ht =
+      let g6 : Frame (at + 20) (at + 24) x5 x6 = frame-wider (p6 .frame) (omega arith) (omega arith) in
+      let g5 : Frame (at + 16) (at + 24) x4 x6 = frame-join (p5 .frame) g6 (omega arith) (omega arith) (omega arith) (omega arith) in
+      let g4 : Frame (at + 12) (at + 24) x3 x6 = frame-join (p4 .frame) g5 (omega arith) (omega arith) (omega arith) (omega arith) in
+      let g3 : Frame (at + 8) (at + 24) x2 x6 = frame-join (p3 .frame) g4 (omega arith) (omega arith) (omega arith) (omega arith) in
+      let g2 : Frame (at + 4) (at + 24) x1 x6 = frame-join (p2 .frame) g3 (omega arith) (omega arith) (omega arith) (omega arith) in
+      record {
+        frame = frame-join (p1 .frame) g2 (omega arith) (omega arith) (omega arith) (omega arith);
+        same =
+            rw (
+              word-kept-below g2 at (omega arith) ∙ p1 .same,
+              word-kept-below g3 (at + 4) (omega arith) ∙ p2 .same,
+              word-kept-below g4 (at + 8) (omega arith) ∙ p3 .same,
+              word-kept-below g5 (at + 12) (omega arith) ∙ p4 .same,
+              word-kept-below g6 (at + 16) (omega arith) ∙ p5 .same,
+              p6 .same,
+              hk,
+              hm,
+              ht,
+            );
+      }
+
+  pub slot-put : {x0 x1 x2 x3 x4 x5 x6 : List ℕ} → Fits e → w < 4294967296 → at + 24 ≤ length x0
+      → x1 ≡ sets x0 at (bytes4 (e .handle)) → x2 ≡ sets x1 (at + 4) (bytes4 w) → x3 ≡ sets x2 (at + 8) (bytes4 (e .v0))
+      → x4 ≡ sets x3 (at + 12) (bytes4 (e .v1)) → x5 ≡ sets x4 (at + 16) (bytes4 (e .v2)) → x6 ≡ sets x5 (at + 20) (bytes4 (e .v3))
+      → w / 16777216 % 256 ≡ e .kind → w / 65536 % 256 ≡ e .mask → w / 256 % 256 ≡ e .table → Stored x0 x6 at e
+  slot-put {x0} {x1} {x2} {x3} {x4} {x5} {x6} f small fits e1 e2 e3 e4 e5 e6 hk hm ht =
+      let p1 = word-put at (e .handle) (f .handle) (omega arith) e1 in
+      let l1 = p1 .frame .len in
+      let p2 = word-put (at + 4) w small (omega arith) e2 in
+      let l2 = p2 .frame .len in
+      let p3 = word-put (at + 8) (e .v0) (f .v0) (omega arith) e3 in
+      let l3 = p3 .frame .len in
+      let p4 = word-put (at + 12) (e .v1) (f .v1) (omega arith) e4 in
+      let l4 = p4 .frame .len in
+      let p5 = word-put (at + 16) (e .v2) (f .v2) (omega arith) e5 in
+      let l5 = p5 .frame .len in
+      let p6 = word-put (at + 20) (e .v3) (f .v3) (omega arith) e6 in
+      words-put p1 p2 p3 p4 p5 p6 hk hm ht

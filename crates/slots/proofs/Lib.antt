@@ -1,0 +1,5 @@
+pub mod Frames
+pub mod Lists
+pub mod Tables
+pub mod Order
+pub mod Loops

@@ -1,0 +1,249 @@
+-- Tables by rising handle: where a handle is, and that an insertion at its place, a removal, a store of the same handle and a push of a
+-- higher one keep the order. Of lists alone; what stands before a place is below the handle, and what stands from it on is not.
+use mathlib.Core.Path.{_≡_, refl, sym, ap, subst}
+use mathlib.Core.Bool.{Bool, true, false}
+use mathlib.Core.List.{List, [], _∷_, _++_}
+use mathlib.Core.Logic.{⊎-elim}
+use Prim.Native.Nat.{ℕ, zero, suc, _≤_, _<_}
+use native.Mathlib.Nat.{eq-or-lt-of-le}
+use native.Mathlib.Omega.{arith}
+use borrow.Author.Tests.{lt-ltb, le-ltb, ltb-true, ltb-false, eq-eqb, ne-eqb, eqb-true}
+use lib.Dec.{eqb, ltb}
+use lib.ListN.{length, getD, set, length-set}
+use Rattle.meaning.specs.Base.{if_then_else_}
+use Rattle.words.proofs.Laws.{split}
+use Rattle.slots.specs.declared.Slot.{Slot}
+use Rattle.slots.specs.declared.Found.the-variants.{At, Nothing}
+use Rattle.slots.specs.Slots.{insertAt, removeAt, blank, placeIn, findIn, Sorted}
+use Rattle.slots.proofs.Lists.{removed-length}
+
+-- no slot of l has the handle h
+pub record Absent (h : ℕ) (l : List Slot) : Type 0 where
+  pub differs : (j : ℕ) → j < length l → getD l j blank .handle ≡ h → ⊥
+
+-- ---- The place of a handle
+
+pub place-is : (h : ℕ) (l : List Slot) (i : ℕ) → i ≤ length l → ((k : ℕ) → k < i → getD l k blank .handle < h)
+    → (i < length l → h ≤ getD l i blank .handle) → placeIn h l ≡ i
+unfolding placeIn
+place-is h [] i b lo hi = omega arith
+place-is h (e ∷ l) zero b lo hi = rw (le-ltb (e .handle) h (hi (omega arith)))
+place-is h (e ∷ l) (suc i) b lo hi =
+    rw (
+      lt-ltb (e .handle) h (lo 0 (omega arith)),
+      place-is h l i (omega arith) (λ k p. lo (suc k) (omega arith)) (λ p. hi (omega arith)),
+    )
+
+pub place-within : (h : ℕ) (l : List Slot) → placeIn h l ≤ length l
+unfolding placeIn
+place-within h [] = omega arith
+place-within h (e ∷ l) = by (ltb (e .handle) h) (place-within h l)
+  where
+    by : (t : Bool) → placeIn h l ≤ length l → (if t then suc (placeIn h l) else 0) ≤ length (e ∷ l)
+    by true r = omega arith
+    by false r = omega arith
+
+pub place-under : (h : ℕ) (l : List Slot) (k : ℕ) → k < placeIn h l → getD l k blank .handle < h
+unfolding placeIn
+place-under h [] k b = absurd (omega arith)
+place-under h (e ∷ l) k b = by (ltb (e .handle) h) refl k b (place-under h l)
+  where
+    by : (t : Bool) → ltb (e .handle) h ≡ t → (j : ℕ) → j < (if t then suc (placeIn h l) else 0)
+        → ((i : ℕ) → i < placeIn h l → getD l i blank .handle < h) → getD (e ∷ l) j blank .handle < h
+    by true q zero p r = ltb-true (e .handle) h q
+    by true q (suc j) p r = r j (omega arith)
+    by false q j p r = absurd (omega arith)
+
+pub place-over : (h : ℕ) (l : List Slot) → placeIn h l < length l → h ≤ getD l (placeIn h l) blank .handle
+unfolding placeIn
+place-over h [] b = absurd (omega arith)
+place-over h (e ∷ l) b = by (ltb (e .handle) h) refl b (place-over h l)
+  where
+    by : (t : Bool) → ltb (e .handle) h ≡ t → (if t then suc (placeIn h l) else 0) < length (e ∷ l)
+        → (placeIn h l < length l → h ≤ getD l (placeIn h l) blank .handle)
+        → h ≤ getD (e ∷ l) (if t then suc (placeIn h l) else 0) blank .handle
+    by true q p r = r (omega arith)
+    by false q p r = ltb-false (e .handle) h q
+
+pub sorted-le : {l : List Slot} → Sorted l → (i j : ℕ) → i ≤ j → j < length l → getD l i blank .handle ≤ getD l j blank .handle
+sorted-le {l} s i j h b =
+    ⊎-elim
+    (λ (q : i ≡ j). subst (λ (m : ℕ). getD l i blank .handle ≤ getD l m blank .handle) q (omega arith))
+    (λ (q : i < j). omega (arith, s .rises i j q b))
+    (eq-or-lt-of-le h)
+
+-- ---- Where the slot of a handle is
+
+-- the three answers, by the tests that give them
+pub find-yes : (l : List Slot) (h i : ℕ) → i ≡ placeIn h l → i < length l → getD l i blank .handle ≡ h → At i ≡ findIn h l
+unfolding findIn
+find-yes l h i q b e = sym (rw (← q, lt-ltb i (length l) b, eq-eqb (getD l i blank .handle) h e))
+
+pub find-other : (l : List Slot) (h i : ℕ) → i ≡ placeIn h l → i < length l → (getD l i blank .handle ≡ h → ⊥) → Nothing ≡ findIn h l
+unfolding findIn
+find-other l h i q b e = sym (rw (← q, lt-ltb i (length l) b, ne-eqb (getD l i blank .handle) h e))
+
+pub find-end : (l : List Slot) (h i : ℕ) → i ≡ placeIn h l → length l ≤ i → Nothing ≡ findIn h l
+unfolding findIn
+find-end l h i q b = sym (rw (← q, le-ltb i (length l) b))
+
+-- what each answer says
+pub find-at : (h : ℕ) (l : List Slot) {i : ℕ} → findIn h l ≡ At i → (i < length l) × (getD l i blank .handle ≡ h)
+unfolding findIn
+find-at h l {i} f = by (ltb p (length l)) refl (eqb (getD l p blank .handle) h) refl f
+  where
+    p : ℕ
+    p = placeIn h l
+
+    by : (t : Bool) → ltb p (length l) ≡ t → (u : Bool) → eqb (getD l p blank .handle) h ≡ u
+        → (if t then (if u then At p else Nothing) else Nothing) ≡ At i → (i < length l) × (getD l i blank .handle ≡ h)
+    by true a true b g =
+        let same : p ≡ i = cc in
+        rw (← same) (ltb-true p (length l) a, eqb-true (getD l p blank .handle) h b)
+    by true a false b g = absurd (let z : _≡_ {A = ℕ} 0 1 = cc in omega arith)
+    by false a u b g = absurd (let z : _≡_ {A = ℕ} 0 1 = cc in omega arith)
+
+strict : (m n : ℕ) → m ≤ n → (n ≡ m → ⊥) → m < n
+strict m n h d = ⊎-elim (λ (q : m ≡ n). absurd (d (sym q))) (λ (q : m < n). q) (eq-or-lt-of-le h)
+
+-- a handle that is not at its place is nowhere
+absent-by : (h : ℕ) (l : List Slot) → Sorted l → (placeIn h l < length l → getD l (placeIn h l) blank .handle ≡ h → ⊥) → Absent h l
+absent-by h l s d =
+    let p : ℕ = placeIn h l in
+    record {
+      differs =
+          λ j b q.
+          split (ltb j p)
+          (λ t. omega (arith, place-under h l j (ltb-true j p t)))
+          (λ t.
+          let le : p ≤ j = ltb-false j p t in
+          let in-l : p < length l = omega arith in
+          let more : h < getD l p blank .handle = strict _ _ (place-over h l in-l) (d in-l) in
+          omega (arith, sorted-le s p j le b));
+    }
+
+pub find-nothing : (h : ℕ) (l : List Slot) → Sorted l → findIn h l ≡ Nothing → Absent h l
+unfolding findIn
+find-nothing h l s f =
+    absent-by h l s
+    (λ b q. let z : _≡_ {A = ℕ} 0 1 = cc (find-yes l h (placeIn h l) refl b q) in omega arith)
+
+-- and the other way
+pub find-there : (h : ℕ) (l : List Slot) (i : ℕ) → Sorted l → i < length l → getD l i blank .handle ≡ h → findIn h l ≡ At i
+find-there h l i s b q =
+    sym (find-yes l h i (sym (place-is h l i (omega arith) (λ k p. omega (arith, s .rises k i p b)) (λ p. omega arith))) b q)
+
+pub find-absent : (h : ℕ) (l : List Slot) → Absent h l → findIn h l ≡ Nothing
+find-absent h l a =
+    split (ltb (placeIn h l) (length l))
+    (λ e. let b = ltb-true (placeIn h l) (length l) e in sym (find-other l h (placeIn h l) refl b (a .differs (placeIn h l) b)))
+    (λ e. sym (find-end l h (placeIn h l) refl (ltb-false (placeIn h l) (length l) e)))
+
+-- ---- Lengths
+
+pub insert-length : (i : ℕ) (e : Slot) (l : List Slot) → length (insertAt i e l) ≡ suc (length l)
+unfolding insertAt
+insert-length zero e l = refl
+insert-length (suc i) e [] = refl
+insert-length (suc i) e (x ∷ l) = ap suc (insert-length i e l)
+
+pub remove-length : (i : ℕ) (l : List Slot) → i < length l → suc (length (removeAt i l)) ≡ length l
+unfolding removeAt
+remove-length i l h = removed-length l i h
+
+-- ---- Keeping the order
+
+-- each handle of l is above b
+record Over (b : ℕ) (l : List Slot) : Type 0 where
+  each : (j : ℕ) → j < length l → b < getD l j blank .handle
+
+over-tail : {b : ℕ} {x : Slot} {l : List Slot} → Over b (x ∷ l) → Over b l
+over-tail o = record { each = λ j h. o .each (suc j) (omega arith) }
+
+over-cons : {b : ℕ} {x : Slot} {l : List Slot} → b < x .handle → Over b l → Over b (x ∷ l)
+over-cons {b} {x} {l} h o = record { each = go }
+  where
+    go : (j : ℕ) → j < length (x ∷ l) → b < getD (x ∷ l) j blank .handle
+    go zero p = h
+    go (suc j) p = o .each j (omega arith)
+
+head-over : {x : Slot} {l : List Slot} → Sorted (x ∷ l) → Over (x .handle) l
+head-over s = record { each = λ j h. s .rises 0 (suc j) (omega arith) (omega arith) }
+
+tail-sorted : {x : Slot} {l : List Slot} → Sorted (x ∷ l) → Sorted l
+tail-sorted s = record { rises = λ i j h b. s .rises (suc i) (suc j) (omega arith) (omega arith) }
+
+cons-sorted : {x : Slot} {l : List Slot} → Over (x .handle) l → Sorted l → Sorted (x ∷ l)
+cons-sorted {x} {l} o s = record { rises = go }
+  where
+    go : (i j : ℕ) → i < j → j < length (x ∷ l) → getD (x ∷ l) i blank .handle < getD (x ∷ l) j blank .handle
+    go i zero h b = absurd (omega arith)
+    go zero (suc j) h b = o .each j (omega arith)
+    go (suc i) (suc j) h b = s .rises i j (omega arith) (omega arith)
+
+over-weak : {b c : ℕ} {l : List Slot} → b ≤ c → Over c l → Over b l
+over-weak h o = record { each = λ j p. omega (arith, o .each j p) }
+
+over-insert : {b : ℕ} (i : ℕ) (e : Slot) (l : List Slot) → b < e .handle → Over b l → Over b (insertAt i e l)
+unfolding insertAt
+over-insert zero e l h o = over-cons h o
+over-insert (suc i) e [] h o = over-cons h o
+over-insert (suc i) e (x ∷ l) h o = over-cons (o .each 0 (omega arith)) (over-insert i e l h (over-tail o))
+
+over-remove : {b : ℕ} (i : ℕ) (l : List Slot) → Over b l → Over b (removeAt i l)
+unfolding removeAt
+over-remove zero [] o = o
+over-remove (suc i) [] o = o
+over-remove zero (x ∷ l) o = over-tail o
+over-remove (suc i) (x ∷ l) o = over-cons (o .each 0 (omega arith)) (over-remove i l (over-tail o))
+
+pub sorted-nil : Sorted []
+sorted-nil = record { rises = λ i j h b. absurd (omega arith) }
+
+pub sorted-insert : (e : Slot) (l : List Slot) → Sorted l → Absent (e .handle) l → Sorted (insertAt (placeIn (e .handle) l) e l)
+unfolding insertAt placeIn
+sorted-insert e [] s a = record { rises = λ i j h b. absurd (omega arith) }
+sorted-insert e (x ∷ l) s a =
+    by (ltb (x .handle) (e .handle)) refl
+    (sorted-insert e l (tail-sorted s) (record { differs = λ j b. a .differs (suc j) (omega arith) }))
+  where
+    by : (t : Bool) → ltb (x .handle) (e .handle) ≡ t → Sorted (insertAt (placeIn (e .handle) l) e l)
+        → Sorted (insertAt (if t then suc (placeIn (e .handle) l) else 0) e (x ∷ l))
+    by true q r = cons-sorted (over-insert (placeIn (e .handle) l) e l (ltb-true _ _ q) (head-over s)) r
+    by false q r =
+        let lt : e .handle < x .handle = strict _ _ (ltb-false _ _ q) (a .differs 0 (omega arith)) in
+        cons-sorted (over-cons lt (over-weak (omega arith) (head-over s))) s
+
+pub sorted-remove : (i : ℕ) (l : List Slot) → Sorted l → Sorted (removeAt i l)
+unfolding removeAt
+sorted-remove zero [] s = s
+sorted-remove (suc i) [] s = s
+sorted-remove zero (x ∷ l) s = tail-sorted s
+sorted-remove (suc i) (x ∷ l) s = cons-sorted (over-remove i l (head-over s)) (sorted-remove i l (tail-sorted s))
+
+-- a store of a slot with the handle that stood there changes no handle
+pub set-handle : (i : ℕ) (e : Slot) (l : List Slot) → e .handle ≡ getD l i blank .handle
+    → (k : ℕ) → getD (set l i e) k blank .handle ≡ getD l k blank .handle
+set-handle i e [] q k = refl
+set-handle zero e (x ∷ l) q zero = q
+set-handle zero e (x ∷ l) q (suc k) = refl
+set-handle (suc i) e (x ∷ l) q zero = refl
+set-handle (suc i) e (x ∷ l) q (suc k) = set-handle i e l q k
+
+pub sorted-set : (i : ℕ) (e : Slot) (l : List Slot) → Sorted l → e .handle ≡ getD l i blank .handle → Sorted (set l i e)
+sorted-set i e l s q =
+    record {
+      rises =
+          λ j k h b.
+          rw (set-handle i e l q j, set-handle i e l q k) (s .rises j k h (rw length-set at b));
+    }
+
+pub sorted-push : (e : Slot) (l : List Slot) → Sorted l → ((j : ℕ) → j < length l → getD l j blank .handle < e .handle)
+    → Sorted (l ++ (e ∷ []))
+sorted-push e [] s a = cons-sorted (record { each = λ j h. absurd (omega arith) }) sorted-nil
+sorted-push e (x ∷ l) s a =
+    cons-sorted (over-push l (head-over s) (a 0 (omega arith))) (sorted-push e l (tail-sorted s) (λ j h. a (suc j) (omega arith)))
+  where
+    over-push : {b : ℕ} (k : List Slot) → Over b k → b < e .handle → Over b (k ++ (e ∷ []))
+    over-push [] o h = over-cons h o
+    over-push (y ∷ k) o h = over-cons (o .each 0 (omega arith)) (over-push k (over-tail o) h)

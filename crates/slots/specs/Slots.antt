@@ -1,0 +1,88 @@
+-- Tables of slots in a room of bytes: what they hold, and what a change of one leaves as it was.
+use mathlib.Core.Path.{_≡_}
+use mathlib.Core.Bool.{Bool, true, false}
+use mathlib.Core.List.{List, [], _∷_, _++_}
+use Prim.Native.Nat.{ℕ, zero, suc, _+_, _*_, _/_, _%_, _≤_, _<_}
+use lib.ListN.{length, getD, take, drop}
+use lib.Dec.{eqb, ltb}
+use Rattle.meaning.specs.Base.{if_then_else_}
+use Rattle.words.specs.Words.{word32At}
+use Rattle.slots.specs.declared.Slot.{Slot}
+use Rattle.slots.specs.declared.Found.{Found}
+use Rattle.slots.specs.declared.Found.the-variants.{At, Nothing}
+
+-- the slot in the 24 bytes from a place: handle; kind, mask and table in one word; four values
+unfoldable pub slotAt : List ℕ → ℕ → Slot
+slotAt xs at =
+    record {
+      handle = word32At xs at;
+      kind = word32At xs (at + 4) / 16777216 % 256;
+      mask = word32At xs (at + 4) / 65536 % 256;
+      table = word32At xs (at + 4) / 256 % 256;
+      v0 = word32At xs (at + 8);
+      v1 = word32At xs (at + 12);
+      v2 = word32At xs (at + 16);
+      v3 = word32At xs (at + 20);
+    }
+
+-- n slots from a place on
+unfoldable pub slotsFrom : List ℕ → ℕ → ℕ → List Slot
+slotsFrom xs at zero = []
+slotsFrom xs at (suc n) = slotAt xs at ∷ slotsFrom xs (at + 24) n
+
+-- the table at a base: its size, then its slots
+unfoldable pub tableAt : List ℕ → ℕ → List Slot
+tableAt xs base = slotsFrom xs (base + 4) (word32At xs base)
+
+-- the bytes of a table with room for `most` slots
+unfoldable pub tableBytes : ℕ → ℕ
+tableBytes most = 4 + 24 * most
+
+-- ys is xs but for the places from lo up to, not including, hi
+pub record Frame (lo hi : ℕ) (xs ys : List ℕ) : Type 0 where
+  pub len : length ys ≡ length xs
+  pub below : (k : ℕ) → k < lo → getD ys k 0 ≡ getD xs k 0
+  pub above : (k : ℕ) → hi ≤ k → getD ys k 0 ≡ getD xs k 0
+
+-- a table with room for `most` slots stands at a base
+pub record Stands (base most : ℕ) (xs : List ℕ) : Type 0 where
+  pub fits : base + tableBytes most ≤ length xs
+  pub size : word32At xs base ≤ most
+
+-- the table at a base now holds a list, and nothing else changed
+pub record Holds (base most : ℕ) (xs ys : List ℕ) (l : List Slot) : Type 0 where
+  pub frame : Frame base (base + tableBytes most) xs ys
+  pub stands : Stands base most ys
+  pub list : tableAt ys base ≡ l
+
+-- the slot in the bytes from a place was stored, and nothing else changed
+pub record Stored (xs ys : List ℕ) (at : ℕ) (e : Slot) : Type 0 where
+  pub frame : Frame at (at + 24) xs ys
+  pub same : slotAt ys at ≡ e
+
+abbrev pub blank : Slot
+blank = record { handle = 0; kind = 0; mask = 0; table = 0; v0 = 0; v1 = 0; v2 = 0; v3 = 0 }
+
+unfoldable pub insertAt : ℕ → Slot → List Slot → List Slot
+insertAt i e l = take i l ++ (e ∷ drop i l)
+
+unfoldable pub removeAt : ℕ → List Slot → List Slot
+removeAt i l = take i l ++ drop (suc i) l
+
+-- by rising handle
+pub record Sorted (l : List Slot) : Type 0 where
+  pub rises : (i j : ℕ) → i < j → j < length l → getD l i blank .handle < getD l j blank .handle
+
+-- how many slots at the front have a handle below h
+unfoldable pub placeIn : ℕ → List Slot → ℕ
+placeIn h [] = 0
+placeIn h (e ∷ l) = if ltb (e .handle) h then suc (placeIn h l) else 0
+
+-- is the slot at i, of those there are, the one of the handle h
+unfoldable pub hit : ℕ → ℕ → List Slot → Bool
+hit h i l = if ltb i (length l) then eqb (getD l i blank .handle) h else false
+
+-- where the slot of the handle h is
+unfoldable pub findIn : ℕ → List Slot → Found
+findIn h l =
+    if ltb (placeIn h l) (length l) then (if eqb (getD l (placeIn h l) blank .handle) h then At (placeIn h l) else Nothing) else Nothing
