@@ -1,0 +1,4 @@
+pub mod KindTable
+pub mod Joining
+pub mod AllTables
+pub mod Waking

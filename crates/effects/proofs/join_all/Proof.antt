@@ -1,0 +1,45 @@
+-- `effects::join_all` meets its contract: before turn `k` the tables of the rules below `k` are joined and the others are as they were.
+use mathlib.Core.Logic.{⊎-elim}
+use Prim.Native.Nat.{_-_}
+use native.Mathlib.Omega.{arith}
+use Rattle.effects.proofs.AllTables.{Upto, upto-start, next-takes, turn-yes, turn-no, upto-done}
+use Rattle.effects.proofs.join_all.Statement.{statement}
+use Rattle.effects.proofs.join_all.Tie as tie
+
+abbrev Inv-loop : tie.InvT-loop
+Inv-loop room₀ op active k₀ room k = Upto room₀ room active op k
+
+abbrev μ-loop : tie.MeasureT-loop
+μ-loop room₀ op active k₀ room k = 16 - k
+
+join-table-requires : tie.Need-join-table-requires Inv-loop μ-loop
+join-table-requires c κs =
+    let test = c .before in
+    let turn = test .before in
+    let at-loop = turn .before in
+    let start = at-loop .before .before in (
+      at-loop .loop .inv .stands _ (turn .loop-test .taken),
+      next-takes (start .pre) _ (at-loop .loop .inv) (turn .loop-test .taken) (test .if1 .taken),
+    )
+
+loop-again : tie.Need-loop-again Inv-loop μ-loop
+loop-again c =
+    let turn = c .before in
+    let at-loop = turn .before in
+    let start = at-loop .before .before in
+    let test = turn .loop-test .taken in
+    ⊎-elim
+    (λ w. rw (w .5) (turn-yes (start .pre) _ (at-loop .loop .inv) test (w .0 .taken) (w .2 .ensures)))
+    (λ w. rw (w .1) (turn-no (start .pre) _ (at-loop .loop .inv) test (w .0 .left)))
+    (c .if1 .came)
+
+returns : tie.Need-returns Inv-loop μ-loop
+returns c =
+    let at-loop = c .before in
+    upto-done (at-loop .before .before .pre) _ (at-loop .loop .inv) (c .loop-test .left)
+
+pub join-all-spec : {M : Type 1} → statement M
+join-all-spec =
+    tie.close
+    (tie.spec Inv-loop μ-loop (λ c. upto-start (c .before .pre)) (λ c. omega arith) (λ c. omega arith) (λ c. omega arith)
+    join-table-requires (λ c. omega arith) (λ c. omega arith) loop-again (λ c. returns c .frame .len) returns)

@@ -1,0 +1,53 @@
+-- `effects::join_table` meets its contract: the handle is at its place and its slot is joined, or the operation is inserted there.
+use native.Mathlib.Omega.{arith}
+use borrow.Author.Needs.{needs}
+use Rattle.slots.specs.Slots.{tableAt}
+use Rattle.slots.proofs.Tables.{table-length}
+use Rattle.slots.proofs.Order.{place-within}
+use Rattle.effects.proofs.Joining.{free-slot, joined-insert}
+use Rattle.effects.proofs.join_table.Statement.{statement}
+use Rattle.effects.proofs.join_table.Tie as tie
+
+place-requires : tie.Need-place-requires
+place-requires c κs =
+    let start = c .before .before in
+    (start .pre .0, start .pre .1 .sorted)
+
+join-at-requires : tie.Need-join-at-requires
+join-at-requires c κs =
+    let test = c .before in
+    let asked = test .before in
+    let placed = asked .before .before in
+    let start = placed .before .before .before in
+    (start .pre .0, (placed .place .ensures, rw (← asked .is-at .ensures) (test .if1 .taken)))
+
+insert-at-requires : tie.Need-insert-at-requires
+insert-at-requires c κs =
+    let test = c .before in
+    let asked = test .before in
+    let placed = asked .before .before in
+    let start = placed .before .before .before in
+    let a = start .args in
+    let free = free-slot (a .room .now) (a .base) _ (a .op) (placed .place .ensures)
+    (rw (← asked .is-at .ensures) (test .if1 .left)) (start .pre .1) in
+    let low = place-within (a .op .handle) (tableAt (a .room .now) (a .base)) in
+    let len = table-length (a .room .now) (a .base) in
+    (start .pre .0, (free, (omega arith, omega (arith, placed .place .ensures, low, len))))
+
+returns-2 : tie.Need-returns-2
+returns-2 c =
+    let put = c .before .before in
+    let test = put .before .before in
+    let asked = test .before in
+    let placed = asked .before .before in
+    let start = placed .before .before .before in
+    let a = start .args in
+    joined-insert (a .room .now) (a .base) _ (a .op) (placed .place .ensures) (rw (← asked .is-at .ensures) (test .if1 .left))
+    (put .insert-at .ensures)
+
+pub join-table-spec : {M : Type 1} → statement M
+join-table-spec =
+    tie.close
+    (tie.spec place-requires (λ c κs. search needs) join-at-requires
+    (λ c. c .before .before .join-at .ensures .frame .len) (λ c. c .before .before .join-at .ensures)
+    insert-at-requires (λ c. returns-2 c .frame .len) returns-2)

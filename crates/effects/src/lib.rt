@@ -1,0 +1,153 @@
+// What waits for the rules: net effects kept by rising handle, joined operation by operation through one
+// constant table of kinds; and whether it triggers a rule.
+ghost use mathlib.Core.Path.{_≡_};
+ghost use mathlib.Core.Bool.{true};
+ghost use Prim.Native.Nat.{_≤_, _<_};
+ghost use lib.ListN.{length};
+ghost use Rattle.meaning.specs.Base.{any};
+ghost use Rattle.meaning.specs.RowOperations.{joinKind};
+ghost use Rattle.meaning.specs.Processing.TransitionTables as TransitionTables;
+ghost use Rattle.words.specs.Words.{word32At};
+ghost use Rattle.slots.specs.Slots.{tableAt, Stands, Holds, Sorted, placeIn, hit, blank};
+ghost use Rattle.room.specs.Room.{Laid, watchRule, effectMeant, waitsIn};
+ghost use Rattle.room.specs.Joins.{asEffect, joinSlot, joinSlots, Takes, Joinable, AllJoined};
+use room::Watch;
+use slots::Slot;
+
+// How two kinds join, a line for the kind before, a column for the kind that comes after it: 0 nothing,
+// 1 inserted, 2 deleted, 3 updated; 4 marks a join that no run can reach.
+const JOIN: [u8; 16] = [0, 1, 2, 3, 1, 4, 0, 1, 2, 4, 4, 4, 3, 4, 2, 3];
+
+fn wide(x: u8) -> usize
+    ensures { λ r. ⌜ (r ≡ x) × (r < 256) ⌝ }
+{
+    x as usize
+}
+
+fn join_kind(a: u8, b: u8) -> u8
+    ensures { λ r. ⌜ r ≡ joinKind a b ⌝ }
+{
+    let j = wide(a) * 4 + wide(b);
+    if j < 16 {
+        return JOIN[j];
+    }
+    4
+}
+
+// A slot with another kind and mask.
+pub fn as_effect(kind: u8, mask: u8, e: Slot) -> Slot
+    ensures { λ r. ⌜ r ≡ asEffect kind mask e ⌝ }
+{
+    Slot {
+        handle: e.handle,
+        kind,
+        mask,
+        table: e.table,
+        v0: e.v0,
+        v1: e.v1,
+        v2: e.v2,
+        v3: e.v3,
+    }
+}
+
+// What was before and what comes after it as one effect; of kind 0 where nothing is left.
+fn join_slot(a: Slot, b: Slot) -> Slot
+    ensures { λ r. ⌜ r ≡ joinSlot a b ⌝ }
+{
+    let k = join_kind(a.kind, b.kind);
+    if k == 2 {
+        return b;
+    }
+    if k == 3 {
+        return as_effect(3, a.mask | b.mask, a);
+    }
+    if k == 0 {
+        return as_effect(0, 0, a);
+    }
+    a
+}
+
+// The effect at a place of a table joins a later one on the same handle.
+fn join_at(room: &mut [u8], base: usize, i: usize, op: Slot)
+    requires { ⌜ Stands base 128 (now room) ⌝ }
+    requires { ⌜ i ≡ placeIn (op .handle) (tableAt (now room) base) ⌝ }
+    requires { ⌜ hit (op .handle) i (tableAt (now room) base) ≡ true ⌝ }
+    ensures { λ _. ⌜ Holds base 128 (now (room .entry)) (now (room .exit)) (joinSlots op (tableAt (now (room .entry)) base)) ⌝ }
+{
+    let e = slots::slot_at(room, base, room::ENTRIES, i);
+    let x = join_slot(e, op);
+    if x.kind == 0 {
+        slots::remove_at(room, base, room::ENTRIES, i);
+        return;
+    }
+    slots::put_at(room, base, room::ENTRIES, i, x);
+}
+
+// An operation joins one table of what waits.
+fn join_table(room: &mut [u8], base: usize, op: Slot)
+    requires { ⌜ Stands base 128 (now room) ⌝ }
+    requires { ⌜ Takes op (tableAt (now room) base) ⌝ }
+    ensures { λ _. ⌜ Holds base 128 (now (room .entry)) (now (room .exit)) (joinSlots op (tableAt (now (room .entry)) base)) ⌝ }
+{
+    let i = slots::place(room, base, room::ENTRIES, op.handle);
+    if slots::is_at(room, base, room::ENTRIES, i, op.handle) {
+        join_at(room, base, i, op);
+        return;
+    }
+    slots::insert_at(room, base, room::ENTRIES, i, op);
+}
+
+// An operation joins what waits for every active rule. Inactive rules cost nothing.
+pub fn join_all(room: &mut [u8], active: [bool; 16], op: Slot)
+    requires { ⌜ Joinable (now room) active op ⌝ }
+    ensures { λ _. ⌜ AllJoined (now (room .entry)) (now (room .exit)) active op ⌝ }
+{
+    let mut k: usize = 0;
+    while k < room::RULES {
+        if active[k] {
+            join_table(room, room::WAITS + room::WAIT * k, op);
+        }
+        k += 1;
+    }
+}
+
+// Whether an effect wakes a rule: on its own table, an inserted handle (bit 0), a deleted one (bit 1), or
+// an updated one whose mask meets the rule's columns (bit 2).
+fn wakes(rule: Watch, e: Slot) -> bool
+    ensures { λ r. ⌜ r ≡ TransitionTables.wakes (watchRule rule) (effectMeant e) ⌝ }
+{
+    if wide(e.table) != rule.table {
+        return false;
+    }
+    let kind = e.kind;
+    match kind {
+        1 => words::has_bit(rule.triggers, 0),
+        2 => words::has_bit(rule.triggers, 1),
+        3 => {
+            if words::has_bit(rule.triggers, 2) {
+                return words::meet(wide(e.mask), rule.columns);
+            }
+            false
+        }
+        _ => false,
+    }
+}
+
+// Whether what waits for rule k wakes it.
+pub fn triggered(room: &[u8], k: usize, rule: Watch) -> bool
+    requires { ⌜ Laid (now room) ⌝ }
+    requires { ⌜ k < 16 ⌝ }
+    ensures { λ r. ⌜ r ≡ any (λ p. TransitionTables.wakes (watchRule rule) (p .1)) (waitsIn (now (room .entry)) k) ⌝ }
+{
+    let base = room::WAITS + room::WAIT * k;
+    let n = slots::size(room, base);
+    let mut left = n;
+    while 0 < left {
+        let e = slots::slot_at(room, base, room::ENTRIES, n - left);
+        if wakes(rule, e) {
+            return true;
+        }
+        left -= 1;
+    }
+    false
+}

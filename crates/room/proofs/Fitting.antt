@@ -1,0 +1,74 @@
+-- The operations that a room that represents a state can make fit its image: an insert of a slot with the next handle where there is room,
+-- a delete of a live slot, an update of one that changes only the columns of its mask. The row of a live slot is the image's.
+use mathlib.Core.Path.{_≡_, refl, sym, ap, _∙_}
+use mathlib.Core.Bool.{Bool, true, false}
+use mathlib.Core.List.{List}
+use Prim.Native.Nat.{ℕ, _≤_, _<_}
+use native.Mathlib.Omega.{arith}
+use lib.Dec.{ltb}
+use lib.Signed.{mag}
+use lib.ListN.{length, getD, length-map}
+use borrow.Author.Tests.{ltb-true, ltb-false}
+use Rattle.meaning.specs.Values.{signed}
+use Rattle.meaning.specs.Covers.{Image, lastHandle}
+use Rattle.meaning.specs.RowOperations.{inserts, deletes, updates}
+use Rattle.meaning.specs.Processing.{State}
+use Rattle.meaning.specs.Trace.{OnlyIn}
+use Rattle.meaning.proofs.Lists.{noElement, anElement}
+use Rattle.meaning.proofs.Made.{Proper, Fits, insertFits, deleteFits, updateFits}
+use Rattle.words.specs.Words.{word32At}
+use Rattle.slots.specs.declared.Slot.{Slot}
+use Rattle.slots.specs.Slots.{tableAt, blank}
+use Rattle.slots.proofs.Frames.{Fits as SlotFits}
+use Rattle.slots.proofs.Order.{find-there}
+use Rattle.room.specs.Room.{NEXT, LIVE, ROWS, rowMeant, rowsMeant, liveRows}
+use Rattle.room.specs.Represents.{Represents, Reached}
+use Rattle.room.proofs.Live.{live-sorted, found-row}
+
+signed-fits : (n : ℕ) → n < 4294967296 → mag (signed n) ≤ 2147483647
+unfolding signed
+signed-fits n h = go (ltb n 2147483648) refl
+  where
+    go : (t : Bool) → ltb n 2147483648 ≡ t → mag (signed n) ≤ 2147483647
+    go true e = rw e (omega (arith, ltb-true n 2147483648 e))
+    go false e = rw e (omega (arith, ltb-false n 2147483648 e))
+
+-- a slot whose fields fit and whose table is one of the four is a proper row
+pub proper-slot : {e : Slot} → SlotFits e → e .table ≤ 3 → Proper (rowMeant e)
+unfolding rowMeant
+proper-slot {e} f t =
+    record {
+      tableFits = t;
+      four = refl;
+      inRange =
+          anElement (signed-fits (e .v0) (f .v0))
+          (anElement (signed-fits (e .v1) (f .v1))
+          (anElement (signed-fits (e .v2) (f .v2))
+          (anElement (signed-fits (e .v3) (f .v3)) noElement)));
+    }
+
+pub live-length : {s : State} {xs : List ℕ} {active : List Bool} → Represents xs active s
+    → length (tableAt xs LIVE) ≡ length (s .image .rows)
+unfolding liveRows rowsMeant
+live-length {xs = xs} p = sym (length-map (tableAt xs LIVE) rowMeant) ∙ ap length (p .rows)
+
+pub fits-insert : {s : State} {xs : List ℕ} {active : List Bool} → Represents xs active s → (e : Slot) → e .handle ≡ word32At xs NEXT
+    → Proper (rowMeant e) → length (tableAt xs LIVE) < ROWS → word32At xs NEXT < lastHandle → Fits (s .image) (inserts (rowMeant e))
+unfolding rowMeant
+fits-insert p e q proper room left =
+    insertFits (q ∙ p .next) proper (omega (arith, live-length p)) (omega (arith, p .next))
+
+module _ {start : Image} {s : State} {xs : List ℕ} {active : List Bool} (reached : Reached start s) (p : Represents xs active s) where
+  pub fits-delete : (i : ℕ) → i < length (tableAt xs LIVE) → Fits (s .image) (deletes (rowMeant (getD (tableAt xs LIVE) i blank)))
+  unfolding rowMeant
+  fits-delete i b =
+      let e = getD (tableAt xs LIVE) i blank in
+      deleteFits (found-row reached p (e .handle) (find-there (e .handle) (tableAt xs LIVE) i (live-sorted reached p) b refl))
+
+  pub fits-update : {mask : ℕ} (i : ℕ) (new : Slot) → i < length (tableAt xs LIVE)
+      → OnlyIn mask (rowMeant (getD (tableAt xs LIVE) i blank)) (rowMeant new) → Proper (rowMeant new)
+      → Fits (s .image) (updates mask (rowMeant (getD (tableAt xs LIVE) i blank)) (rowMeant new))
+  unfolding rowMeant
+  fits-update i new b only proper =
+      let e = getD (tableAt xs LIVE) i blank in
+      updateFits (found-row reached p (e .handle) (find-there (e .handle) (tableAt xs LIVE) i (live-sorted reached p) b refl)) only proper

@@ -1,0 +1,6 @@
+pub mod Waits
+pub mod Live
+pub mod Fitting
+pub mod Steps
+pub mod Draws
+pub mod Marks

@@ -1,0 +1,138 @@
+-- The marks: a state at the start has them all at 0, and a drawing moves one up to now. What waits for that rule is then the net effect of
+-- no operation, as its table is empty; the rest of the state stays, as do the live rows and the other tables.
+use mathlib.Core.Path.{_≡_, refl, sym, ap, _∙_}
+use mathlib.Core.Bool.{Bool, true, false}
+use mathlib.Core.List.{List, []}
+use Prim.Native.Nat.{ℕ, _≤_, _<_}
+use native.Mathlib.Omega.{arith}
+use lib.Dec.{eqb, ltb}
+use lib.ListN.{length, getD, set, replicate, List·getD-eq-default, getD-replicate, length-replicate, length-set}
+use lib.Seq.{drop-length, getD-set-same, getD-set-other, set-out}
+use borrow.Author.Tests.{eqb-true, eqb-false, ltb-true, ltb-false}
+use Rattle.meaning.specs.Covers.{Rule, Image}
+use Rattle.meaning.specs.RowOperations.{RowOperation, makeAll}
+use Rattle.meaning.specs.Processing.{State, since, waits, moved, afterLog}
+use Rattle.meaning.proofs.Made.{Sound, Made.none as noneMade}
+use Rattle.meaning.proofs.NetEffects.{netEffect-none}
+use Rattle.words.specs.Words.{Bytes, word32At}
+use Rattle.slots.specs.Slots.{tableAt, tableBytes, Frame}
+use Rattle.slots.proofs.Frames.{word-kept-below}
+use Rattle.slots.proofs.Tables.{table-kept-below}
+use Rattle.room.specs.Room.{NEXT, LIVE, INSERTED, ROWS, waitAt, Laid, Kept, rowsMeant, waitMeant, liveRows, waitsIn}
+use Rattle.room.specs.Drawn.{Drew}
+use Rattle.room.specs.Represents.{Represents, Reached, madeAll}
+
+-- ---- A mark is moved
+
+-- rule k has seen all operations so far
+unfoldable pub seen : State → ℕ → State
+seen s k = record { image = s .image; done = s .done; marks = set (s .marks) k (length (s .done)) }
+
+-- a consideration's state
+pub seen-moved : (rules : List Rule) (s : State) (k : ℕ) (os : List RowOperation) → madeAll os (seen s k) ≡ moved rules s k os
+unfolding seen madeAll moved
+seen-moved rules s k os = refl
+
+pub seen-mark : (s : State) (k : ℕ) → k < length (s .marks) → getD (seen s k .marks) k 0 ≡ length (s .done)
+unfolding seen
+seen-mark s k b = getD-set-same (s .marks) k (length (s .done)) 0 b
+
+pub seen-length : (s : State) (k : ℕ) → length (seen s k .marks) ≡ length (s .marks)
+unfolding seen
+seen-length s k = length-set (s .marks) k (length (s .done))
+
+-- a list with an element stored has it, or what was there
+set-at-most : (l : List ℕ) (k n : ℕ) → ((j : ℕ) → getD l j 0 ≤ n) → (j : ℕ) → getD (set l k n) j 0 ≤ n
+set-at-most l k n f j = go (eqb j k) refl (ltb k (length l)) refl
+  where
+    go : (t : Bool) → eqb j k ≡ t → (u : Bool) → ltb k (length l) ≡ u → getD (set l k n) j 0 ≤ n
+    go true e true b = rw (eqb-true j k e, getD-set-same l k n 0 (ltb-true k (length l) b)) (omega arith)
+    go true e false b = rw (set-out l k n (ltb-false k (length l) b)) (f j)
+    go false e u b = rw (getD-set-other l k j n 0 (eqb-false j k e)) (f j)
+
+pub reached-seen : {start : Image} {s : State} → Reached start s → (k : ℕ) → Reached start (seen s k)
+unfolding seen
+reached-seen {s = s} r k =
+    record {
+      sound = r .sound;
+      made = r .made;
+      image = r .image;
+      marked = set-at-most (s .marks) k (length (s .done)) (r .marked);
+    }
+
+-- ---- What waits then
+
+pub seen-none : (s : State) (k : ℕ) → k < length (s .marks) → waits (seen s k) k ≡ []
+unfolding waits since seen
+seen-none s k b = rw (getD-set-same (s .marks) k (length (s .done)) 0 b, drop-length (s .done)) netEffect-none
+
+pub seen-other : (s : State) (k j : ℕ) → eqb j k ≡ false → waits (seen s k) j ≡ waits s j
+unfolding waits since seen
+seen-other s k j e = rw (getD-set-other (s .marks) k j (length (s .done)) 0 (eqb-false j k e))
+
+-- ---- The room after a drawing
+
+kept-frame : {hi : ℕ} {xs ys : List ℕ} → Kept 0 hi xs ys → Frame hi (length xs) xs ys
+kept-frame {hi} {xs} {ys} k =
+    record {
+      len = k .len;
+      below = λ i h. k .same i (omega arith) h;
+      above = λ i h.
+          List·getD-eq-default ys 0 {n = i} (omega (arith, k .len)) ∙ sym (List·getD-eq-default xs 0 {n = i} h);
+    }
+
+pub drew : {s : State} {xs ys : List ℕ} {active : List Bool} {k : ℕ} {rule : Rule} → Represents xs active s → Drew xs ys k rule → Bytes ys
+    → k < length (s .marks) → Represents ys active (seen s k)
+unfolding seen liveRows waitsIn waitMeant tableBytes
+drew {s} {xs} {ys} {active} {k} p d bytes mark =
+    record {
+      laid = d .laid;
+      bytes = bytes;
+      next = word-kept-below f NEXT (omega arith) ∙ p .next;
+      rows = ap rowsMeant (table-kept-below f LIVE ROWS (p .laid .live) (omega arith)) ∙ p .rows;
+      waiting = λ j b a. go j b a (eqb j k) refl;
+    }
+  where
+    f : Frame INSERTED (length xs) xs ys
+    f = kept-frame (d .before)
+
+    go : (j : ℕ) → j < 16 → getD active j false ≡ true → (t : Bool) → eqb j k ≡ t → waitsIn ys j ≡ waits (seen s k) j
+    go j b a true e = rw (eqb-true j k e, d .emptied) (sym (seen-none s k mark))
+    go j b a false e = ap waitMeant (d .others j b (eqb-false j k e)) ∙ p .waiting j b a ∙ sym (seen-other s k j e)
+
+-- ---- The start
+
+-- nothing is done, and all marks are at 0
+unfoldable pub starting : List Rule → Image → State
+starting rules start = record { image = start; done = []; marks = replicate (length rules) 0 }
+
+pub starting-log : (rules : List Rule) (order : List ℕ) (start : Image) (os : List RowOperation)
+    → madeAll os (starting rules start) ≡ afterLog rules order start os
+unfolding starting madeAll afterLog
+starting-log rules order start os = refl
+
+all-same : (n k a : ℕ) → getD (replicate n a) k a ≡ a
+all-same n k a = go (ltb k n) refl
+  where
+    go : (t : Bool) → ltb k n ≡ t → getD (replicate n a) k a ≡ a
+    go true e = getD-replicate n k a a (ltb-true k n e)
+    go false e = List·getD-eq-default (replicate n a) a {n = k} (omega (arith, ltb-false k n e, length-replicate n a))
+
+pub reached-starting : (rules : List Rule) {start : Image} → Sound start → Reached start (starting rules start)
+unfolding starting makeAll
+reached-starting rules s =
+    record { sound = s; made = noneMade; image = refl; marked = λ k. rw (all-same (length rules) k 0) (omega arith) }
+
+pub represents-starting : (rules : List Rule) {start : Image} {xs : List ℕ} {active : List Bool} → Laid xs → Bytes xs
+    → word32At xs NEXT ≡ start .next → liveRows xs ≡ start .rows
+    → ((k : ℕ) → k < 16 → getD active k false ≡ true → tableAt xs (waitAt k) ≡ [])
+    → Represents xs active (starting rules start)
+unfolding starting waits since waitsIn waitMeant
+represents-starting rules {start} laid bytes next rows empty =
+    record {
+      laid = laid;
+      bytes = bytes;
+      next = next;
+      rows = rows;
+      waiting = λ k b a. rw (empty k b a, all-same (length rules) k 0) (sym netEffect-none);
+    }

@@ -1,0 +1,120 @@
+-- What waits, slot by slot: where a table's slots mean the net effect of a stretch, they stand by rising handle, and an operation more
+-- joins them as it joins the net effect, since slots join as the effects that they mean.
+use mathlib.Core.Path.{_≡_, refl, sym, ap, _∙_}
+use mathlib.Core.Logic.{_≢_}
+use mathlib.Core.Bool.{Bool, true, false}
+use mathlib.Core.List.{List, [], _∷_, _++_}
+use Prim.Native.Nat.{ℕ, zero, suc, _≤_, _<_}
+use native.Mathlib.Omega.{arith}
+use lib.Dec.{eqb, ltb}
+use lib.ListN.{length, getD, length-map}
+use borrow.Author.Tests.{eqb-true}
+use Rattle.meaning.specs.RowOperations.{RowOperation, inserts, deletes, updates, Effect, NetEffect, nothing, inserted, deleted, updated}
+use Rattle.meaning.specs.RowOperations.{kind, joinTable, joinKind, over, joinedAs, join, effectOf, entry, netEffect}
+use Rattle.meaning.proofs.NetEffects.{joinInto, joinOperation, Listed, oneEntry, netEffect-more, netEffect-listed}
+use Rattle.slots.specs.declared.Slot.{Slot}
+use Rattle.slots.specs.Slots.{blank, Sorted}
+use Rattle.room.specs.Room.{rowMeant, effectMeant, entryMeant, waitMeant}
+use Rattle.room.specs.Joins.{asEffect, joinedSlot, joinSlot, keptSlot, joinSlots}
+use Rattle.room.specs.Represents.{Says}
+
+unfoldable meant : Unit {0}
+unfolding rowMeant effectMeant entryMeant waitMeant
+meant = tt
+
+unfoldable joins : Unit {0}
+unfolding meant kind joinTable joinKind over joinedAs join entry asEffect joinedSlot joinSlot keptSlot
+joins = tt
+
+-- ---- A slot
+
+-- the three kinds that mean something
+data Kind (e : Slot) : Type 0 where
+  one : e .kind ≡ 1 → Kind e
+  two : e .kind ≡ 2 → Kind e
+  three : e .kind ≡ 3 → Kind e
+
+kind-of : (e : Slot) → effectMeant e ≢ nothing → Kind e
+unfolding effectMeant
+kind-of e n = go (eqb (e .kind) 1) refl (eqb (e .kind) 2) refl (eqb (e .kind) 3) refl
+  where
+    go : (a : Bool) → eqb (e .kind) 1 ≡ a → (b : Bool) → eqb (e .kind) 2 ≡ b → (c : Bool) → eqb (e .kind) 3 ≡ c → Kind e
+    go true p b q c r = one (eqb-true (e .kind) 1 p)
+    go false p true q c r = two (eqb-true (e .kind) 2 q)
+    go false p false q true r = three (eqb-true (e .kind) 3 r)
+    go false p false q false r = absurd (n (rw (p, q, r)))
+
+-- two slots join as what they mean
+slot-join : (e op : Slot) (l : List Slot) → Kind e → Kind op → e .handle ≡ op .handle
+    → waitMeant (keptSlot (joinSlot e op) l) ≡ entry (op .handle) (join (effectMeant e) (effectMeant op)) (waitMeant l)
+unfolding joins
+slot-join e op l (one p) (one q) h = rw (p, q, h)
+slot-join e op l (one p) (two q) h = rw (p, q)
+slot-join e op l (one p) (three q) h = rw (p, q, h)
+slot-join e op l (two p) (one q) h = rw (p, q, h)
+slot-join e op l (two p) (two q) h = rw (p, q, h)
+slot-join e op l (two p) (three q) h = rw (p, q, h)
+slot-join e op l (three p) (one q) h = rw (p, q, h)
+slot-join e op l (three p) (two q) h = rw (p, q)
+slot-join e op l (three p) (three q) h = rw (p, q, h)
+
+entry-some : (h : ℕ) (e : Effect) (es : NetEffect) → e ≢ nothing → entry h e es ≡ (h, e) ∷ es
+unfolding entry
+entry-some h nothing es n = absurd (n refl)
+entry-some h (inserted t) es n = refl
+entry-some h (deleted r) es n = refl
+entry-some h (updated m r) es n = refl
+
+-- ---- A table
+
+table-join : {low : ℕ} (op : Slot) (l : List Slot) → effectMeant op ≢ nothing → Listed low (waitMeant l)
+    → waitMeant (joinSlots op l) ≡ joinInto (op .handle) (effectMeant op) (waitMeant l)
+unfolding entryMeant waitMeant joinSlots joinInto
+table-join op [] n p = sym (entry-some (op .handle) (effectMeant op) [] n)
+table-join op (e ∷ l) n (oneEntry a b r) = go (ltb (e .handle) (op .handle)) refl (eqb (e .handle) (op .handle)) refl (table-join op l n r)
+  where
+    go : (c : Bool) → ltb (e .handle) (op .handle) ≡ c → (d : Bool) → eqb (e .handle) (op .handle) ≡ d
+        → waitMeant (joinSlots op l) ≡ joinInto (op .handle) (effectMeant op) (waitMeant l)
+        → waitMeant (joinSlots op (e ∷ l)) ≡ joinInto (op .handle) (effectMeant op) (waitMeant (e ∷ l))
+    go true t d q ih = rw (t, ih)
+    go false t true q ih = rw (t, q) (slot-join e op l (kind-of e b) (kind-of op n) (eqb-true (e .handle) (op .handle) q))
+    go false t false q ih = rw (t, q) (sym (entry-some (op .handle) (effectMeant op) (waitMeant (e ∷ l)) n))
+
+listed-over : {low : ℕ} (l : List Slot) → Listed low (waitMeant l) → (j : ℕ) → j < length l → low ≤ getD l j blank .handle
+unfolding entryMeant waitMeant
+listed-over [] p j h = absurd (omega arith)
+listed-over (e ∷ l) (oneEntry a b r) zero h = a
+listed-over (e ∷ l) (oneEntry a b r) (suc j) h = omega (arith, listed-over l r j (omega arith))
+
+listed-rises : {low : ℕ} (l : List Slot) → Listed low (waitMeant l) → (i j : ℕ) → i < j → j < length l
+    → getD l i blank .handle < getD l j blank .handle
+unfolding entryMeant waitMeant
+listed-rises [] p i j h b = absurd (omega arith)
+listed-rises (e ∷ l) p i zero h b = absurd (omega arith)
+listed-rises (e ∷ l) (oneEntry a c r) zero (suc j) h b = listed-over l r j (omega arith)
+listed-rises (e ∷ l) (oneEntry a c r) (suc i) (suc j) h b = listed-rises l r i j (omega arith) (omega arith)
+
+-- ---- What waits
+
+-- an operation does something
+effect-some : (o : RowOperation) → effectOf o ≢ nothing
+unfolding effectOf
+effect-some (inserts r) q = let z : _≡_ {A = ℕ} 0 1 = cc in omega arith
+effect-some (deletes r) q = let z : _≡_ {A = ℕ} 0 1 = cc in omega arith
+effect-some (updates m old new) q = let z : _≡_ {A = ℕ} 0 1 = cc in omega arith
+
+module _ (l : List Slot) (os : List RowOperation) (w : waitMeant l ≡ netEffect os) where
+  waits-listed : Listed 0 (waitMeant l)
+  waits-listed = rw w (netEffect-listed os)
+
+  pub waits-sorted : Sorted l
+  waits-sorted = record { rises = listed-rises l waits-listed }
+
+  pub waits-length : length l ≡ length (netEffect os)
+  unfolding waitMeant
+  waits-length = sym (length-map l entryMeant) ∙ ap length w
+
+  pub waits-more : {o : RowOperation} {op : Slot} → Says o op → waitMeant (joinSlots op l) ≡ netEffect (os ++ (o ∷ []))
+  unfolding joinOperation
+  waits-more {o} {op} s =
+      table-join op l (λ q. effect-some o (sym (s .effect) ∙ q)) waits-listed ∙ rw (s .effect, s .handle, w) (sym (netEffect-more os o))

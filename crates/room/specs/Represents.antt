@@ -1,0 +1,47 @@
+-- The working room represents a state of the specification: the one thing that connects the two worlds.
+use mathlib.Core.Path.{_≡_}
+use mathlib.Core.Bool.{Bool, true, false}
+use mathlib.Core.List.{List, [], _∷_, _++_}
+use Prim.Native.Nat.{ℕ, _≤_, _<_}
+use lib.ListN.{length, getD}
+use Rattle.meaning.specs.Covers.{Image}
+use Rattle.meaning.specs.RowOperations.{RowOperation, handleOf, effectOf, make, makeAll}
+use Rattle.meaning.specs.Processing.{State, waits}
+use Rattle.meaning.proofs.Made.{Sound, Made}
+use Rattle.words.specs.Words.{Bytes, word32At}
+use Rattle.slots.specs.declared.Slot.{Slot}
+use Rattle.room.specs.Room.{NEXT, Laid, effectMeant, liveRows, waitsIn}
+
+-- live rows and next handle are the image's; what waits for each active rule is what the specification says waits for it
+pub record Represents (xs : List ℕ) (active : List Bool) (s : State) : Type 0 where
+  pub laid : Laid xs
+  pub bytes : Bytes xs
+  pub next : word32At xs NEXT ≡ s .image .next
+  pub rows : liveRows xs ≡ s .image .rows
+  pub waiting : (k : ℕ) → k < 16 → getD active k false ≡ true → waitsIn xs k ≡ waits s k
+
+-- a state that a run reaches from a sound start image: its operations fit one after another
+pub record Reached (start : Image) (s : State) : Type 0 where
+  pub sound : Sound start
+  pub made : Made start (s .done)
+  pub image : s .image ≡ makeAll (s .done) start
+  pub marked : (k : ℕ) → getD (s .marks) k 0 ≤ length (s .done)
+
+-- a room that represents such a state
+pub record Running (xs : List ℕ) (active : List Bool) : Type 0 where
+  pub start : Image
+  pub state : State
+  pub reached : Reached start state
+  pub represents : Represents xs active state
+
+-- one operation more, and several
+unfoldable pub madeOne : RowOperation → State → State
+madeOne o s = record { image = make o (s .image); done = s .done ++ (o ∷ []); marks = s .marks }
+
+unfoldable pub madeAll : List RowOperation → State → State
+madeAll os s = record { image = makeAll os (s .image); done = s .done ++ os; marks = s .marks }
+
+-- a slot says what an operation does to its handle
+pub record Says (o : RowOperation) (op : Slot) : Type 0 where
+  pub handle : op .handle ≡ handleOf o
+  pub effect : effectMeant op ≡ effectOf o

@@ -1,0 +1,3 @@
+pub mod Lookups
+pub mod Effects
+pub mod Drawing
