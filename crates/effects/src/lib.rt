@@ -3,6 +3,7 @@
 ghost use mathlib.Core.Path.{_≡_};
 ghost use mathlib.Core.Bool.{true};
 ghost use Prim.Native.Nat.{_≤_, _<_};
+ghost use lib.Bits.{bitOr};
 ghost use lib.ListN.{length};
 ghost use Rattle.meaning.specs.Base.{any};
 ghost use Rattle.meaning.specs.RowOperations.{joinKind};
@@ -34,6 +35,13 @@ fn join_kind(a: u8, b: u8) -> u8
     4
 }
 
+// The columns of two updates.
+fn united(a: u8, b: u8) -> u8
+    ensures { λ r. ⌜ r ≡ bitOr a b ⌝ }
+{
+    a | b
+}
+
 // A slot with another kind and mask.
 pub fn as_effect(kind: u8, mask: u8, e: Slot) -> Slot
     ensures { λ r. ⌜ r ≡ asEffect kind mask e ⌝ }
@@ -59,7 +67,7 @@ fn join_slot(a: Slot, b: Slot) -> Slot
         return b;
     }
     if k == 3 {
-        return as_effect(3, a.mask | b.mask, a);
+        return as_effect(3, united(a.mask, b.mask), a);
     }
     if k == 0 {
         return as_effect(0, 0, a);

@@ -1,7 +1,6 @@
 -- The row operations of a log operation or an action fit the image one after another: inserted rows take the next handles while there is
 -- room, and deleted or updated rows are live rows with distinct handles, so that each is still there when its turn comes.
 use mathlib.Core.Path.{_≡_, refl, ap, _∙_, subst}
-use mathlib.Core.Logic.{_≢_}
 use mathlib.Core.Bool.{Bool, true, false}
 use mathlib.Core.List.{List, [], _∷_, map}
 use mathlib.Core.Option.{Option, none, some}
@@ -15,7 +14,7 @@ use borrow.Author.Tests.{ltb-false, leb-true, ne-eqb}
 use Rattle.meaning.specs.Base.{if_then_else_, maybe, bit, select, both, eachOr}
 use Rattle.meaning.specs.Values.{inRange, plus}
 use Rattle.meaning.specs.Covers.{mostRows, lastHandle, Row, Image, Source, Term, Query, Expression, Action, LogOperation, Outcome}
-use Rattle.meaning.specs.Covers.{Reason, commit, rolledBack, failed, current, inserted, deleted, newUpdated, oldUpdated, fixed}
+use Rattle.meaning.specs.Covers.{Reason, rolledBack, failed, current, inserted, deleted, newUpdated, oldUpdated, fixed}
 use Rattle.meaning.specs.Covers.{column, sum, rollback, insertRow, insertFromQuery, deleteRows, updateRows, insert, delete, update}
 use Rattle.meaning.specs.Covers.{noSuchRow, full, handlesUsedUp, sumOutOfRange}
 use Rattle.meaning.specs.RowOperations.{RowOperation, inserts, deletes, updates, rowAt, make, makeAll}
@@ -59,20 +58,19 @@ pub data GoodAction : Action → Type 0 where
 
 -- ---- Results whose operations fit
 
--- and that end the run, if they do, without a commit
+-- the outcomes with which an operation or an action ends a run
+pub data Breaks : Outcome → Type 0 where
+  byRollback : Breaks rolledBack
+  byFailure : {r : Reason} → Breaks (failed r)
+
+-- and that end the run, if they do, with such an outcome
 pub data MadeOf (m : Image) : Result → Type 0 where
   wentMade : {os : List RowOperation} → Made m os → MadeOf m (went os)
-  endsMade : {o : Outcome} {os : List RowOperation} → o ≢ commit → Made m os → MadeOf m (ends o os)
-
-failed-no-commit : (r : Reason) → failed r ≢ commit
-failed-no-commit r q = absurd (let z : _≡_ {A = ℕ} 0 1 = cc in omega arith)
-
-rollback-no-commit : rolledBack ≢ commit
-rollback-no-commit q = absurd (let z : _≡_ {A = ℕ} 0 1 = cc in omega arith)
+  endsMade : {o : Outcome} {os : List RowOperation} → Breaks o → Made m os → MadeOf m (ends o os)
 
 pub fails-made : {m : Image} (r : Reason) → MadeOf m (fails r)
 unfolding fails
-fails-made r = endsMade (failed-no-commit r) Of.none
+fails-made r = endsMade byFailure Of.none
 
 pub if-made : {m : Image} {x y : Result} (b : Bool) → (b ≡ true → MadeOf m x) → (b ≡ false → MadeOf m y) → MadeOf m (if b then x else y)
 if-made true p q = p refl
@@ -346,7 +344,7 @@ chosen-taken t m n ts s = taken-select (allHold t (m .rows) ts) (taken-select (�
 
 pub perform-made : (t : Transition) (a : Action) (m : Image) → ProperTables t → GoodAction a → Sound m → MadeOf m (perform t a m)
 unfolding perform
-perform-made t rollback m p goodRollback s = endsMade rollback-no-commit Of.none
+perform-made t rollback m p goodRollback s = endsMade byRollback Of.none
 perform-made t (insertRow n vs) m p (goodInsertRow l f) s = insertAll-made n (vs ∷ []) m l (anElement f noElement)
 perform-made t (insertFromQuery n q es) m p (goodInsertFrom l k g) s =
     maybe-made (eachOr (workOutAll es) (chosen t (m .rows) q)) (fails-made sumOutOfRange) (λ vss e.

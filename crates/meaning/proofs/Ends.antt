@@ -14,9 +14,11 @@ use Rattle.meaning.specs.ByteLayouts.{imageBytes}
 use Rattle.meaning.specs.Processing.{State, Ending, ended, afterEvents}
 use Rattle.meaning.specs.EntryPoints.{accepted, JudgedBook, refusedBook, acceptedBook, judgeBook, withBook, verdict, imageMalformed}
 use Rattle.meaning.specs.EntryPoints.{logMalformed, outcomeNumber, failureNumber, reasonNumber, handedBack, written}
+use Rattle.meaning.specs.Trace.{considerationsIn}
 use Rattle.meaning.specs.Theorems.{Accepted, endingOf, Spoken, isRefused, isAccepted, EveryRun, Ends, Determined}
 use Rattle.meaning.proofs.RoundTrip.{round-trip}
-use Rattle.meaning.proofs.Traces.{Steps, commits, meetsLimit, endsRun, goesOn, Runs, logEnds, logDone}
+use Rattle.meaning.proofs.Traces.{considerations-append, considerations-made, one-consideration, Steps, commits, meetsLimit}
+use Rattle.meaning.proofs.Traces.{endsRun, goesOn, Runs, logEnds, logDone}
 use Rattle.meaning.proofs.RunsFit.{run-steps}
 
 -- ---- Refused or accepted
@@ -54,19 +56,32 @@ every-run image book log = onImage (readAll ByteLayouts.image image) refl
 
 -- ---- The count
 
+-- the count of an ending, from `count` with `left` more allowed
+record Counted (left count : ℕ) (e : Ending) : Type 0 where
+  pub within : e .count ≤ count + left
+  pub exact : e .count ≡ count + considerationsIn (e .trace)
+
 module _ (rules : List Rule) (order : List ℕ) where
   -- each step spends one consideration
-  steps-count : {left count : ℕ} {s : State} {e : Ending} → Steps rules order left count s e → e .count ≤ count + left
-  unfolding ended afterEvents
-  steps-count (commits t) = omega arith
-  steps-count (meetsLimit t) = omega arith
-  steps-count (endsRun t c) = omega arith
-  steps-count (goesOn t c more) = omega (arith, steps-count more)
+  steps-count : {left count : ℕ} {s : State} {e : Ending} → Steps rules order left count s e → Counted left count e
+  unfolding ended afterEvents considerationsIn
+  steps-count (commits t) = record { within = omega arith; exact = omega arith }
+  steps-count (meetsLimit t) = record { within = omega arith; exact = omega arith }
+  steps-count (endsRun {k = k} {s = s} {new = new} t c) =
+      record { within = omega arith; exact = rw (one-consideration rules s k new) (omega arith) }
+  steps-count (goesOn {k = k} {s = s} {new = new} t c more) =
+      let h = steps-count more in
+      record { within = omega arith; exact = rw (considerations-append, one-consideration rules s k new) (omega arith) }
 
-  runs-count : {limit : ℕ} {log : List LogOperation} {start : Image} {e : Ending} → Runs rules order limit log start e → e .count ≤ limit
+  runs-count : {limit : ℕ} {log : List LogOperation} {start : Image} {e : Ending} → Runs rules order limit log start e → Counted limit 0 e
   unfolding ended afterEvents
-  runs-count (logEnds l) = omega arith
-  runs-count (logDone l more) = omega (arith, steps-count more)
+  runs-count (logEnds {new = new} l) = record { within = omega arith; exact = rw (considerations-made new) }
+  runs-count (logDone {new = new} l more) =
+      let h = steps-count more in
+      record { within = h .within; exact = rw (considerations-append, considerations-made new) (omega arith) }
+
+run-count : {image book log : List ℕ} (a : Accepted image book log) → Counted (a .ruleBook .limit) 0 (endingOf a)
+run-count a = runs-count (a .ruleBook .rules) (a .order) (run-steps a)
 
 -- ---- The outcome
 
@@ -111,7 +126,8 @@ pub every-ends : {image book log : List ℕ} (a : Accepted image book log) → E
 unfolding written
 every-ends {image} {book} {log} a = record {
   known = known-outcome (endingOf a .outcome);
-  counted = runs-count (a .ruleBook .rules) (a .order) (run-steps a);
+  counted = omega (arith, run-count a .within);
+  exact = omega (arith, run-count a .exact);
   reasonless = no-reason (endingOf a .outcome);
   reasoned = some-reason (endingOf a .outcome);
   unchanged = λ n. ap written (accepted-verdict a) ∙ ap imageBytes (handed-start (endingOf a .outcome) (a .start) (endingOf a .image) n)

@@ -1,170 +1,191 @@
--- Each time a rule is considered it is active, and is given the net effect of exactly the operations since its last consideration: in every
--- state of a run, the operations after a rule's mark are those after its last consideration in the trace so far.
+-- Each time a rule is considered it is the first in total order that what waits for it wakes, it is given exactly that, and the operations
+-- that follow are those it makes of the image as it is then: so it is in each state of a run, and the trace leads to that state.
 use mathlib.Core.Path.{_≡_, refl, sym, ap, _∙_}
-use mathlib.Core.Bool.{Bool, true, false, _&&_}
-use mathlib.Core.List.{List, [], _∷_, _++_, map}
+use mathlib.Core.Bool.{true, false}
+use mathlib.Core.List.{List, [], _∷_, _++_, append-nil, append-assoc}
 use mathlib.Core.Option.{Option, none, some}
-use Prim.Native.Nat.{ℕ, zero, suc, _≤_, _<_}
+use Prim.Native.Nat.{ℕ, suc, _+_}
 use native.Mathlib.Omega.{arith}
 use lib.Dec.{eqb}
-use lib.ListN.{length, getD, getElem?, drop, set, replicate, length-append, length-set, length-replicate}
-use lib.Seq.{append-snoc, drop-append-le, drop-append-seam, getD-set-same, getD-set-other}
-use borrow.Author.Tests.{eqb-true, eqb-false}
-use Rattle.meaning.specs.Base.{any}
-use Rattle.meaning.specs.Covers.{Image, Rule, LogOperation}
-use Rattle.meaning.specs.RowOperations.{RowOperation, NetEffect, netEffect}
-use Rattle.meaning.specs.Processing.{State, Event, made, considered, Ending, ended, afterEvents, since, waits, triggered, moved}
-use Rattle.meaning.specs.Processing.{consideration, firstTriggered, afterLog}
-use Rattle.meaning.specs.Processing.TransitionTables.{wakes}
-use Rattle.meaning.specs.Trace.{sinceOn, sinceLast}
-use Rattle.meaning.specs.Theorems.{Accepted, endingOf, Given}
-use Rattle.meaning.proofs.Lists.{there-below, first-is}
-use Rattle.meaning.proofs.Traces.{Along, stop, next, along-append, along-at, last-made, last-considered, last-other, Steps, commits}
-use Rattle.meaning.proofs.Traces.{meetsLimit, endsRun, goesOn, Runs, logEnds, logDone}
-use Rattle.meaning.proofs.RunsFit.{run-steps}
+use lib.ListN.{getElem?}
+use Rattle.meaning.specs.Base.{any, someIn}
+use Rattle.meaning.specs.Covers.{Row, Image, Rule, Query, LogOperation}
+use Rattle.meaning.specs.RowOperations.{RowOperation, NetEffect, netEffect, makeAll}
+use Rattle.meaning.specs.Processing.{State, Event, made, considered, Ending, ended, afterEvents, waits, runLog}
+use Rattle.meaning.specs.Processing.{considerRule, consider, triggered, consideration, firstTriggered, conditionHolds, considerWith}
+use Rattle.meaning.specs.Processing.TransitionTables.{Transition, wakes, transition}
+use Rattle.meaning.specs.Processing.Queries.{chosen}
+use Rattle.meaning.specs.Trace.{operationsIn, considerationsIn, sinceLast, Rest, further, atCommit, atLimit, Makes}
+use Rattle.meaning.specs.Trace as Trace
+use Rattle.meaning.specs.Theorems.{Accepted, endingOf, Given, Conditions}
+use Rattle.meaning.proofs.Lists.{same-some, or-false, any-append, not-empty, Each, has, has-none, none-earlier}
+use Rattle.meaning.proofs.Made.{Sound}
+use Rattle.meaning.proofs.Orders.{total-order}
+use Rattle.meaning.proofs.Traces.{Along, along-each, made-only, behind, considerations-append, considerations-made}
+use Rattle.meaning.proofs.Traces.{one-consideration, Steps, commits, meetsLimit, endsRun, goesOn, Runs, logEnds, logDone}
+use Rattle.meaning.proofs.ActionsFit.{GoodOperation}
+use Rattle.meaning.proofs.StepsFit.{GoodRule, considers, Built, built-moved, built-log}
+use Rattle.meaning.proofs.RunsFit.{run-sound, run-rules, run-order, run-log, run-steps}
+use Rattle.meaning.proofs.Marks.{Follows, follows-log, follows-considered, picks, Triggered, picks-triggered, not-triggered}
 
--- no rule has a mark above the start
-zeros : (n k : ℕ) → _≡_ {A = ℕ} (getD (replicate n 0) k 0) 0
-zeros zero k = refl
-zeros (suc n) zero = refl
-zeros (suc n) (suc k) = zeros n k
+-- ---- What follows
 
--- ---- A triggered rule
+-- the steps begin with a consideration, or there are none, and the run commits or has reached the limit
+steps-rest : {rules : List Rule} {order : List ℕ} {left count : ℕ} {s : State} {e : Ending} (whole : Ending)
+    → Steps rules order left count s e → whole .outcome ≡ e .outcome → Rest whole (e .trace)
+unfolding ended afterEvents consideration
+steps-rest whole (commits t) o = atCommit o
+steps-rest whole (meetsLimit t) o = atLimit o
+steps-rest whole (endsRun t c) o = further
+steps-rest whole (goesOn t c more) o = further
 
-module _ (rules : List Rule) where
-  -- rule k is in the book, and active
-  pub record InForce (k : ℕ) : Type 0 where
-    pub rule : Rule
-    pub inBook : getElem? rules k ≡ some rule
-    pub active : rule .active ≡ true
+runs-begin : {rules : List Rule} {order : List ℕ} {limit : ℕ} {log : List LogOperation} {start : Image} {e : Ending}
+    → Runs rules order limit log start e → Makes e 0 (runLog log start) (e .trace)
+unfolding ended afterEvents
+runs-begin (logEnds {o = o} {new = new} l) = Trace.endsRun o new l refl refl refl
+runs-begin {e = whole} (logDone {new = new} {e = e} l more) = Trace.goesOn new (e .trace) l refl (steps-rest whole more refl)
 
-  pub triggered-in-force : (s : State) (k : ℕ) → triggered rules s k ≡ true → InForce k
-  unfolding triggered
-  triggered-in-force s k t = go (getElem? rules k) refl
+-- ---- The considerations of a run
+
+module _ (rules : List Rule) (order : List ℕ) (start : Image) (good : Each GoodRule rules) (sound : Sound start) where
+  -- at a consideration, the state that the trace before it leads to
+  pub record At (whole : Ending) (before : List Event) (k : ℕ) (given : NetEffect) (after : List Event) : Type 0 where
+    pub state : State
+    pub follows : Follows rules before state
+    pub imageIs : state .image ≡ makeAll (operationsIn before) start
+    pub turn : firstTriggered rules order state ≡ some k
+    pub isGiven : given ≡ waits state k
+    pub makes : Makes whole (suc (considerationsIn before)) (consider rules state k) after
+
+  at-first : {whole : Ending} {s : State} {past es after : List Event} {i k : ℕ} {given : NetEffect} → Built rules order start good sound s
+      → Follows rules past s → firstTriggered rules order s ≡ some i
+      → Makes whole (suc (considerationsIn past)) (consider rules s i) es
+      → considered i (waits s i) ∷ es ≡ considered k given ∷ after → At whole (past ++ []) k given after
+  at-first {s = s} {es = es} {after = after} {i = i} {k = k} {given = given} b f t m q =
+      let sameRule : k ≡ i = cc in
+      let sameGiven : given ≡ waits s i = cc in
+      let sameAfter : after ≡ es = cc in
+      rw (append-nil, sameRule, sameGiven, sameAfter)
+      (record {
+        state = s;
+        follows = f;
+        imageIs = b .imageIs ∙ ap (λ (os : List RowOperation). makeAll os start) (f .allDone);
+        turn = t;
+        isGiven = refl;
+        makes = m;
+      })
+
+  steps-at : {left count : ℕ} {s : State} {e : Ending} {past : List Event} (whole : Ending) → Steps rules order left count s e
+      → Built rules order start good sound s → Follows rules past s → count ≡ considerationsIn past
+      → whole .outcome ≡ e .outcome → whole .count ≡ e .count
+      → (before after : List Event) (k : ℕ) (given : NetEffect) → e .trace ≡ before ++ (considered k given ∷ after)
+      → At whole (past ++ before) k given after
+  unfolding ended afterEvents consideration
+  steps-at whole (commits t) b f n o m before after k given q = not-empty before (considered k given) after q
+  steps-at whole (meetsLimit t) b f n o m before after k given q = not-empty before (considered k given) after q
+  steps-at whole (endsRun {o = o′} {new = new} t c) b f n o m [] after k given q =
+      at-first b f t (Trace.endsRun o′ new c refl o (m ∙ ap suc n)) q
+  steps-at whole (endsRun {new = new} t c) b f n o m (x ∷ before) after k given q = made-only k given new before after (cc)
+  steps-at whole (goesOn {new = new} {e = e} t c more) b f n o m [] after k given q =
+      at-first b f t (Trace.goesOn new (e .trace) c refl (steps-rest whole more o)) q
+  steps-at {past = past} whole (goesOn {count = old} {k = i} {s = s} {new = new} {e = e} t c more) b f n o m (x ∷ before) after k given q =
+      let r = behind k given new (e .trace) before after (cc) in
+      let one : suc old ≡ considerationsIn (past ++ consideration rules s i new) =
+      rw (considerations-append, one-consideration rules s i new) (omega arith) in
+      let same : x ≡ considered i (waits s i) = cc in
+      let h = steps-at whole more (built-moved rules order start good sound b i c) (follows-considered rules order new f t) one o m
+      (r .between) after k given (r .split) in
+      go same (r .past) (rw append-assoc at h)
     where
-      on : (r : Rule) → getElem? rules k ≡ some r → (b : Bool) → r .active ≡ b
-          → (b && any (λ p. wakes r (p .1)) (waits s k)) ≡ true → InForce k
-      on r e true a q = record { rule = r; inBook = e; active = a }
-      on r e false a q = absurd (let z : _≡_ {A = ℕ} 0 1 = cc in omega arith)
+      go : {more : List Event} → x ≡ considered i (waits s i) → before ≡ more
+          → At whole (past ++ (considered i (waits s i) ∷ more)) k given after
+          → At whole (past ++ (x ∷ before)) k given after
+      go p q h = rw (p, q) h
 
-      go : (o : Option Rule) → getElem? rules k ≡ o → InForce k
-      go none e = absurd (let y : false ≡ true = rw e at t in let z : _≡_ {A = ℕ} 0 1 = cc in omega arith)
-      go (some r) e = on r e (r .active) refl (rw e at t)
-
-  -- ---- The states of a run
-
-  -- in the state that a trace leads to, the operations after a rule's mark are those since its last consideration
-  pub record Follows (past : List Event) (s : State) : Type 0 where
-    pub marksLength : length (s .marks) ≡ length rules
-    pub marked : (j : ℕ) → getD (s .marks) j 0 ≤ length (s .done)
-    pub waiting : (j : ℕ) → since s j ≡ sinceLast j past
-
-  -- A consideration empties what waits for the rule, and its operations join what waits for every rule.
-  pub follows-moved : {past : List Event} {s : State} {k : ℕ} (new : List RowOperation) → Follows past s → k < length rules
-      → Follows (past ++ consideration rules s k new) (moved rules s k new)
-  unfolding consideration moved since
-  follows-moved {past} {s} {k} new f low =
-      record {
-        marksLength = length-set (s .marks) k (length (s .done)) ∙ f .marksLength;
-        marked = λ j. mark j (eqb k j) refl;
-        waiting = λ j. wait j (eqb k j) refl;
-      }
-    where
-      marks : List ℕ
-      marks = set (s .marks) k (length (s .done))
-
-      own : (j : ℕ) → eqb k j ≡ true → getD marks j 0 ≡ length (s .done)
-      own j e =
-          ap (λ (i : ℕ). getD marks i 0) (sym (eqb-true k j e)) ∙ getD-set-same (s .marks) k (length (s .done)) 0 (rw (f .marksLength) low)
-
-      other : (j : ℕ) → eqb k j ≡ false → getD marks j 0 ≡ getD (s .marks) j 0
-      other j e = getD-set-other (s .marks) k j (length (s .done)) 0 (λ q. eqb-false k j e (sym q))
-
-      mark : (j : ℕ) (b : Bool) → eqb k j ≡ b → getD marks j 0 ≤ length (s .done ++ new)
-      mark j true e = rw (own j e, length-append) (omega arith)
-      mark j false e = let m = f .marked j in rw (other j e, length-append) (omega arith)
-
-      now : List Event
-      now = past ++ (considered k (waits s k) ∷ [])
-
-      wait : (j : ℕ) (b : Bool) → eqb k j ≡ b
-          → drop (getD marks j 0) (s .done ++ new) ≡ sinceLast j (past ++ (considered k (waits s k) ∷ map made new))
-      wait j true e =
-          rw (own j e, drop-append-seam (s .done) new, ← append-snoc past (considered k (waits s k)) (map made new))
-          (sym (last-made j now new ∙ ap (λ (os : List RowOperation). os ++ new) (last-considered j past k (waits s k) e)))
-      wait j false e =
-          rw (other j e, drop-append-le (getD (s .marks) j 0) (s .done) new (f .marked j))
-          (rw (← append-snoc past (considered k (waits s k)) (map made new))
-          (ap (λ (os : List RowOperation). os ++ new) (f .waiting j ∙ sym (last-other j past k (waits s k) e)) ∙ sym (last-made j now new)))
-
-  -- ---- The considerations of a run
-
-  -- a rule that is considered is in force, and is given what was done since its last consideration
-  pub data GivenAt (past : List Event) : Event → Type 0 where
-    isMade : {o : RowOperation} → GivenAt past (made o)
-    isGiven : {k : ℕ} {given : NetEffect} → InForce k → given ≡ netEffect (sinceLast k past) → GivenAt past (considered k given)
-
-  given-made : (os : List RowOperation) {past : List Event} → Along GivenAt past (map made os)
-  given-made [] = stop
-  given-made (o ∷ os) = next isMade (given-made os)
-
-  module _ (order : List ℕ) where
-    pub first-in-force : (s : State) {k : ℕ} → firstTriggered rules order s ≡ some k → InForce k
-    unfolding firstTriggered
-    first-in-force s {k} t = triggered-in-force s k (first-is (triggered rules s) order k t .passes)
-
-    pub follows-log : (start : Image) (new : List RowOperation) → Follows (map made new) (afterLog rules order start new)
-    unfolding afterLog since sinceLast sinceOn
-    follows-log start new =
-        record {
-          marksLength = length-replicate (length rules) 0;
-          marked = λ j. rw (zeros (length rules) j) (omega arith);
-          waiting = λ j. rw (zeros (length rules) j) (sym (last-made j [] new));
-        }
-
-    pub follows-considered : {past : List Event} {s : State} {k : ℕ} (new : List RowOperation) → Follows past s
-        → firstTriggered rules order s ≡ some k → Follows (past ++ consideration rules s k new) (moved rules s k new)
-    follows-considered {s = s} {k = k} new f t =
-        let r = first-in-force s t in follows-moved new f (there-below rules k (r .rule) (r .inBook))
-
-    given-considered : {past : List Event} {s : State} {k : ℕ} (new : List RowOperation) → Follows past s
-        → firstTriggered rules order s ≡ some k → Along GivenAt past (consideration rules s k new)
-    unfolding consideration waits
-    given-considered {s = s} {k = k} new f t = next (isGiven (first-in-force s t) (ap netEffect (f .waiting k))) (given-made new)
-
-    pub given-steps : {left count : ℕ} {s : State} {e : Ending} {past : List Event} → Steps rules order left count s e → Follows past s
-        → Along GivenAt past (e .trace)
-    unfolding ended afterEvents
-    given-steps (commits t) f = stop
-    given-steps (meetsLimit t) f = stop
-    given-steps (endsRun {new = new} t c) f = given-considered new f t
-    given-steps (goesOn {new = new} t c more) f = along-append (given-considered new f t) (given-steps more (follows-considered new f t))
-
-    pub given-runs : {limit : ℕ} {log : List LogOperation} {start : Image} {e : Ending} → Runs rules order limit log start e
-        → Along GivenAt [] (e .trace)
-    unfolding ended afterEvents
-    given-runs (logEnds {new = new} l) = given-made new
-    given-runs {start = start} (logDone {new = new} l more) = along-append (given-made new) (given-steps more (follows-log start new))
+  pub runs-at : {limit : ℕ} {log : List LogOperation} {whole : Ending} → Each GoodOperation log → Runs rules order limit log start whole
+      → (before after : List Event) (k : ℕ) (given : NetEffect) → whole .trace ≡ before ++ (considered k given ∷ after)
+      → At whole before k given after
+  unfolding ended afterEvents
+  runs-at g (logEnds {new = new} l) before after k given q = made-only k given new before after q
+  runs-at {whole = whole} g (logDone {new = new} {e = e} l more) before after k given q =
+      let r = behind k given new (e .trace) before after q in
+      rw (r .past)
+      (steps-at whole more (built-log rules order start good sound g l) (follows-log rules order start new) (sym (considerations-made new))
+      refl refl (r .between) after k given (r .split))
 
 -- ---- The statement
 
-module _ {image book log : List ℕ} (a : Accepted image book log) where
-  pub given-along : Along (GivenAt (a .ruleBook .rules)) [] (endingOf a .trace)
-  given-along = given-runs (a .ruleBook .rules) (a .order) (run-steps a)
+-- a rule that is considered is given what was done since its last consideration
+pub data GivenAt (past : List Event) : Event → Type 0 where
+  isMade : {o : RowOperation} → GivenAt past (made o)
+  isGiven : {k : ℕ} {given : NetEffect} → given ≡ netEffect (sinceLast k past) → GivenAt past (considered k given)
 
-  given-at : (before after : List Event) (e : Event) → endingOf a .trace ≡ before ++ (e ∷ after) → GivenAt (a .ruleBook .rules) before e
-  given-at before after e q = along-at before after e (rw q at given-along)
+module _ {image book log : List ℕ} (a : Accepted image book log) where
+  module _ (before after : List Event) (k : ℕ) (g : NetEffect) (q : endingOf a .trace ≡ before ++ (considered k g ∷ after)) where
+    run-at : At (a .ruleBook .rules) (a .order) (a .start) (run-rules a) (run-sound a) (endingOf a) before k g after
+    run-at = runs-at (a .ruleBook .rules) (a .order) (a .start) (run-rules a) (run-sound a) (run-log a) (run-steps a) before after k g q
+
+    picked : Triggered (a .ruleBook .rules) (run-at .state) k
+    picked = picks-triggered (a .ruleBook .rules) (a .order) (run-at .state) (run-at .turn)
+
+    none-before : (xs ys : List ℕ) → a .order ≡ xs ++ (k ∷ ys) → any (triggered (a .ruleBook .rules) (run-at .state)) xs ≡ false
+    none-before xs ys split =
+        let f = picks (a .ruleBook .rules) (a .order) (run-at .state) (run-at .turn) in
+        let once = rw any-append at (total-order (a .ruleBook .rules) (a .order) (run-order a) .once xs ys k split) in
+        none-earlier _ k (f .before) (f .after) xs ys (sym (f .split) ∙ split) (f .earlier) (or-false (has k xs) (has k ys) once .0)
+
+    is-since : g ≡ netEffect (sinceLast k before)
+    unfolding waits
+    is-since = run-at .isGiven ∙ ap netEffect (run-at .follows .waiting k)
+
+    is-woken : (r : Rule) → getElem? (a .ruleBook .rules) k ≡ some r → any (λ p. wakes r (p .1)) g ≡ true
+    is-woken r e = rw (run-at .isGiven, same-some (sym e ∙ picked .inBook)) (picked .woken)
+
+    is-first : (xs ys : List ℕ) → a .order ≡ xs ++ (k ∷ ys) → (j : ℕ) → any (eqb j) xs ≡ true → (r : Rule)
+        → getElem? (a .ruleBook .rules) j ≡ some r → r .active ≡ true → any (λ p. wakes r (p .1)) (netEffect (sinceLast j before)) ≡ false
+    unfolding waits
+    is-first xs ys split j h r e on =
+        let still = has-none (triggered (a .ruleBook .rules) (run-at .state)) j xs h (none-before xs ys split) in
+        rw (← run-at .follows .waiting j) (not-triggered (a .ruleBook .rules) (run-at .state) j r e on still)
+
+    makes-after : (r : Rule) → getElem? (a .ruleBook .rules) k ≡ some r
+        → Makes (endingOf a) (suc (considerationsIn before)) (considerRule r g (makeAll (operationsIn before) (a .start))) after
+    makes-after r e = rw (run-at .isGiven, ← run-at .imageIs, ← considers (a .ruleBook .rules) (run-at .state) k r e) (run-at .makes)
 
   pub given : Given a
-  given = record {
-    active = λ before after k g q. in-force (given-at before after (considered k g) q);
-    exactly = λ before after k g q. what (given-at before after (considered k g) q);
-  }
-    where
-      in-force : {before : List Event} {k : ℕ} {g : NetEffect} → GivenAt (a .ruleBook .rules) before (considered k g)
-          → (r : Rule) × (getElem? (a .ruleBook .rules) k ≡ some r) × (r .active ≡ true)
-      in-force (isGiven r e) = (r .rule, r .inBook, r .active)
+  given =
+      record {
+        active = λ before after k g q. let t = picked before after k g q in (t .rule, t .inBook, t .active);
+        exactly = is-since;
+        woken = is-woken;
+        first = is-first;
+        acts = makes-after;
+        begins = runs-begin (run-steps a);
+      }
 
-      what : {before : List Event} {k : ℕ} {g : NetEffect} → GivenAt (a .ruleBook .rules) before (considered k g)
-          → g ≡ netEffect (sinceLast k before)
-      what (isGiven r e) = e
+  pub given-along : Along GivenAt [] (endingOf a .trace)
+  given-along = along-each (endingOf a .trace) at
+    where
+      at : (before after : List Event) (e : Event) → endingOf a .trace ≡ before ++ (e ∷ after) → GivenAt before e
+      at before after (made o) q = isMade
+      at before after (considered k g) q = isGiven (given .exactly before after k g q)
+
+-- ---- Conditions
+
+module _ (t : Transition) (rows : List Row) (c : Option Query) where
+  no-condition : c ≡ none → conditionHolds t rows c ≡ true
+  unfolding conditionHolds
+  no-condition e = rw e
+
+  some-condition : (q : Query) → c ≡ some q → conditionHolds t rows c ≡ someIn (chosen t rows q)
+  unfolding conditionHolds
+  some-condition q e = rw e
+
+pub conditions : Conditions
+unfolding considerRule considerWith
+conditions =
+    record {
+      absent = λ r given m e. rw (no-condition (transition r (m .rows) given) (m .rows) (r .condition) e);
+      yields = λ r given m q e x xs c. rw (some-condition (transition r (m .rows) given) (m .rows) (r .condition) q e, c);
+      empty = λ r given m q e c. rw (some-condition (transition r (m .rows) given) (m .rows) (r .condition) q e, c);
+    }

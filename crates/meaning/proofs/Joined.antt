@@ -7,7 +7,7 @@ use Prim.Native.Nat.{ℕ}
 use lib.Dec.{eqb}
 use lib.Seq.{append-snoc}
 use borrow.Author.Tests.{eqb-true}
-use Rattle.meaning.specs.Covers.{Image, Rule}
+use Rattle.meaning.specs.Covers.{Image}
 use Rattle.meaning.specs.RowOperations.{RowOperation, nothing, join, joinedOn, net, effectAt, makeAll}
 use Rattle.meaning.specs.Processing.{Event, made, considered}
 use Rattle.meaning.specs.Trace.{operationsIn, sinceLast, givenTo, joinedIn}
@@ -23,7 +23,7 @@ use Rattle.meaning.proofs.RunsFit.{run-sound, made-around, made-at, mad
 
 -- ---- Joined
 
-module _ {m : Image} (sound : Sound m) (rules : List Rule) (k h : ℕ) where
+module _ {m : Image} (sound : Sound m) (k h : ℕ) where
   -- what the rule was given, joined in order, is the net effect up to its last consideration
   abbrev JoinedUntil : List Event → Type 0
   JoinedUntil past = joinedIn h nothing (givenTo k past) ≡ net h (untilLast k past)
@@ -34,11 +34,11 @@ module _ {m : Image} (sound : Sound m) (rules : List Rule) (k h : ℕ) where
   joined-all past d =
       sym (net-append (untilLast k past) (sinceLast k past) sound (rw (until-last k past) d) h) ∙ ap (net h) (until-last k past)
 
-  joined-step : {past : List Event} {e : Event} → GivenAt rules past e → Made m (operationsIn past) → JoinedUntil past
+  joined-step : {past : List Event} {e : Event} → GivenAt past e → Made m (operationsIn past) → JoinedUntil past
       → JoinedUntil (past ++ (e ∷ []))
   unfolding givenTo joinedIn
   joined-step {past} (isMade {o = o}) d j = rw (given-append k past (made o ∷ []), append-nil, until-made k past o) j
-  joined-step {past} (isGiven {k = i} {given = g} r e) d j = go (eqb i k) refl
+  joined-step {past} (isGiven {k = i} {given = g} e) d j = go (eqb i k) refl
     where
       go : (b : Bool) → eqb i k ≡ b → JoinedUntil (past ++ (considered i g ∷ []))
       go true q =
@@ -49,7 +49,7 @@ module _ {m : Image} (sound : Sound m) (rules : List Rule) (k h : ℕ) where
           (rw (until-considered k past i g q) (joined-all past d))
       go false q = rw (given-append k past (considered i g ∷ []), q, append-nil, until-other k past i g q) j
 
-  joined-along : {past es : List Event} → Along (GivenAt rules) past es → Made m (operationsIn (past ++ es)) → JoinedUntil past
+  joined-along : {past es : List Event} → Along GivenAt past es → Made m (operationsIn (past ++ es)) → JoinedUntil past
       → JoinedUntil (past ++ es)
   joined-along {past} stop d j = rw append-nil j
   joined-along {past} (next {es = es} {e = e} p a) d j =
@@ -57,7 +57,7 @@ module _ {m : Image} (sound : Sound m) (rules : List Rule) (k h : ℕ) where
       let d″ = made-front (operationsIn past) (operationsIn (e ∷ es)) (rw operations-append at d) in
       rw (← append-snoc past e es) (joined-along a d′ (joined-step p d″ j))
 
-  pub joined-until : (es : List Event) → Along (GivenAt rules) [] es → Made m (operationsIn es)
+  pub joined-until : (es : List Event) → Along GivenAt [] es → Made m (operationsIn es)
       → joinedIn h nothing (givenTo k es) ≡ net h (untilLast k es)
   unfolding givenTo joinedIn untilOn untilLast net joinedOn
   joined-until es a d = joined-along a d refl
@@ -69,14 +69,14 @@ module _ {image book log : List ℕ} (a : Accepted image book log) where
       → joinedIn h nothing (givenTo k before) ≡ net h (untilLast k before)
   until-at before after q k h =
       let along = along-front before after (rw q at (given-along a)) in
-      joined-until (run-sound a) (a .ruleBook .rules) k h before along (made-at a before after q)
+      joined-until (run-sound a) k h before along (made-at a before after q)
 
   pub joined : Joined a
   joined =
       record {
         whole = λ before after q k h.
             rw (until-at before after q k h, says-net)
-            (joined-all (run-sound a) (a .ruleBook .rules) k h before (made-at a before after q));
+            (joined-all (run-sound a) k h before (made-at a before after q));
       }
 
   -- one operation more is made on what was made since the last consideration

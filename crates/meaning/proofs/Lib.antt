@@ -25,6 +25,7 @@ pub mod StepsFit
 pub mod RunsFit
 -- Runs (1, 3, 4, 6)
 pub mod Ends
+pub mod Marks
 pub mod Given
 pub mod Joined
 pub mod Quiet

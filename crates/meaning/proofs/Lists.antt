@@ -195,6 +195,17 @@ has-none p k xs h n = go (p k) refl
     go true e = true-is-false (has-any p k xs h e) n
     go false e = refl
 
+-- of two places of a number, up to the one none passes: nor does any up to the other, if the number is not before it
+pub none-earlier : (p : ℕ → Bool) (k : ℕ) (before after front back : List ℕ) → before ++ (k ∷ after) ≡ front ++ (k ∷ back)
+    → any p before ≡ false → has k front ≡ false → any p front ≡ false
+none-earlier p k before after [] back q n h = refl
+none-earlier p k [] after (x ∷ front) back q n h =
+    let e : k ≡ x = cc in true-is-false (or-left (eqb k x) (has k front) (eq-eqb k x e)) h
+none-earlier p k (y ∷ before) after (x ∷ front) back q n h =
+    let e : x ≡ y = cc in
+    let f = none-earlier p k before after front back (cc) (or-false (p y) (any p before) n .1) (or-false (eqb k x) (has k front) h .1) in
+    rw (e, or-false (p y) (any p before) n .0) f
+
 -- what all elements pass, each member passes
 pub has-all : (p : ℕ → Bool) (k : ℕ) (xs : List ℕ) → has k xs ≡ true → all p xs ≡ true → p k ≡ true
 has-all p k [] h t = true-is-false h refl

@@ -2,7 +2,6 @@
 -- A rule's transition tables hold live rows, and rows that an operation deleted or updated when they were live: all of them are proper.
 use mathlib.Core.Path.{_≡_, refl, sym, ap, _∙_, subst}
 use mathlib.Core.Bool.{Bool, true, false}
-use mathlib.Core.Logic.{_≢_}
 use mathlib.Core.List.{List, [], _∷_, _++_, append-nil, append-assoc}
 use mathlib.Core.Option.{Option, none, some}
 use Prim.Native.Nat.{ℕ, suc}
@@ -26,7 +25,7 @@ use Rattle.meaning.proofs.Lookups.{found-so, makeAll-append, made-appen
 use Rattle.meaning.proofs.Images.{rising-proper, make-sound, makeAll-sound}
 use Rattle.meaning.proofs.Traces.{operations-append, operations-made, Steps, commits, meetsLimit, endsRun, goesOn, Runs, logEnds}
 use Rattle.meaning.proofs.Traces.{logDone}
-use Rattle.meaning.proofs.ActionsFit.{GoodOperation, GoodAction, MadeOf, wentMade, endsMade, if-made, maybe-made, andThen-made}
+use Rattle.meaning.proofs.ActionsFit.{GoodOperation, GoodAction, Breaks, MadeOf, wentMade, endsMade, if-made, andThen-made}
 use Rattle.meaning.proofs.ActionsFit.{operate-made, perform-made, ProperTables}
 
 -- ---- The rows of effects
@@ -197,6 +196,16 @@ considerRule-made r given m g f s =
     let p = transition-proper r (m .rows) (rising-proper (s .rises)) given f in
     if-made (conditionHolds t (m .rows) (r .condition)) (λ e. runActions-made t (r .actions) m p (g .actionsGood) s) (λ e. wentMade Of.none)
 
+-- a rule of the book is considered with what waits for it, on the image as it is
+pub considers : (rules : List Rule) (s : State) (k : ℕ) (r : Rule) → getElem? rules k ≡ some r
+    → consider rules s k ≡ considerRule r (waits s k) (s .image)
+unfolding consider
+considers rules s k r e = rw e
+
+considers-none : (rules : List Rule) (s : State) (k : ℕ) → getElem? rules k ≡ none → consider rules s k ≡ went []
+unfolding consider
+considers-none rules s k e = rw e
+
 -- ---- The steps
 
 -- after the operations of before, those of the ending fit, and its image is the start image with all of them made on it
@@ -230,11 +239,14 @@ module _ (rules : List Rule) (order : List ℕ) (start : Image) (good : Each Goo
   waits-proper s k a = netEffect-row (since s k) (each-drop (getD (s .marks) k 0) (made-rows sound (a .doneFits)))
 
   consider-made : (s : State) (k : ℕ) → Built s → MadeOf (s .image) (consider rules s k)
-  unfolding consider
-  consider-made s k a =
-      maybe-made (getElem? rules k) (wentMade Of.none)
-      (λ r e. considerRule-made r (waits s k) (s .image) (each-element k good e) (waits-proper s k a)
-      (rw (a .imageIs) (makeAll-sound sound (a .doneFits))))
+  consider-made s k a = go (getElem? rules k) refl
+    where
+      go : (o : Option Rule) → getElem? rules k ≡ o → MadeOf (s .image) (consider rules s k)
+      go none e = rw (considers-none rules s k e) (wentMade Of.none)
+      go (some r) e =
+          rw (considers rules s k r e)
+          (considerRule-made r (waits s k) (s .image) (each-element k good e) (waits-proper s k a)
+          (rw (a .imageIs) (makeAll-sound sound (a .doneFits))))
 
   consideration-operations : (s : State) (k : ℕ) (new : List RowOperation) → operationsIn (consideration rules s k new) ≡ new
   unfolding consideration operationsIn
@@ -256,12 +268,12 @@ module _ (rules : List Rule) (order : List ℕ) (start : Image) (good : Each Goo
         go : MadeOf (s .image) (went new) → Built (moved rules s k new)
         go (wentMade g) = record { doneFits = further-fits g; imageIs = further-image new }
 
-    -- or ends the run, and not with a commit
+    -- or ends the run, with an outcome that breaks it off
     pub consider-ends : (k : ℕ) {o : Outcome} {new : List RowOperation} → consider rules s k ≡ ends o new
-        → (o ≢ commit) × Made start (s .done ++ new)
+        → Breaks o × Made start (s .done ++ new)
     consider-ends k {o} {new} c = go (rw c at (consider-made s k a))
       where
-        go : MadeOf (s .image) (ends o new) → (o ≢ commit) × Made start (s .done ++ new)
+        go : MadeOf (s .image) (ends o new) → Breaks o × Made start (s .done ++ new)
         go (endsMade n g) = (n, further-fits g)
 
     replays-now : (o : Outcome) (n : ℕ) → Replays start (s .done) (ended o n (s .image) [])
@@ -286,10 +298,10 @@ module _ (rules : List Rule) (order : List ℕ) (start : Image) (good : Each Goo
         go : MadeOf start (went new) → Built (afterLog rules order start new)
         go (wentMade g) = record { doneFits = g; imageIs = refl }
 
-    pub log-ends : {o : Outcome} {new : List RowOperation} → runLog log start ≡ ends o new → (o ≢ commit) × Made start new
+    pub log-ends : {o : Outcome} {new : List RowOperation} → runLog log start ≡ ends o new → Breaks o × Made start new
     log-ends {o} {new} l = go (rw l at (runLog-made log start goodLog sound))
       where
-        go : MadeOf start (ends o new) → (o ≢ commit) × Made start new
+        go : MadeOf start (ends o new) → Breaks o × Made start new
         go (endsMade n g) = (n, g)
 
     pub runs-replay : {limit : ℕ} {e : Ending} → Runs rules order limit log start e → Replays start [] e

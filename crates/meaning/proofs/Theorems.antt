@@ -70,7 +70,13 @@ module _ {image book log : List ℕ} (a : Accepted image book log) where
   -- ---- 6. Commit
 
   pub commits : Stated.Commits a
-  commits = record { quiet = Quiet.quiet a; rows = λ h. rw (run-replayed a) (differs (run-sound a) (run-made a) h) }
+  commits =
+      record {
+        quiet = Quiet.quiet a;
+        limited = Quiet.spends a;
+        triggered = Quiet.unsettled a;
+        rows = λ h. rw (run-replayed a) (differs (run-sound a) (run-made a) h);
+      }
 
   -- ---- 8. No run meets a marked join
 
@@ -103,6 +109,11 @@ round-trip = RoundTrip.round-trip
 
 pub says-net : Stated.SaysNet
 says-net = NetEffects.says-net
+
+-- ---- 3. Conditions
+
+pub conditions : Stated.Conditions
+conditions = Given.conditions
 
 -- ---- 7. Order
 

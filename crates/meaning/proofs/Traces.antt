@@ -4,7 +4,8 @@ use mathlib.Core.Path.{_≡_, refl, sym, ap, _∙_}
 use mathlib.Core.Bool.{Bool, true, false}
 use mathlib.Core.List.{List, [], _∷_, _++_, map, append-assoc, append-nil}
 use mathlib.Core.Option.{Option, none, some}
-use Prim.Native.Nat.{ℕ, zero, suc}
+use Prim.Native.Nat.{ℕ, zero, suc, _+_}
+use native.Mathlib.Omega.{arith}
 use lib.Dec.{eqb}
 use lib.Seq.{append-snoc}
 use Rattle.meaning.specs.Base.{if_then_else_, maybe}
@@ -13,7 +14,8 @@ use Rattle.meaning.specs.RowOperations.{RowOperation, NetEffect, Effect,
 use Rattle.meaning.specs.Processing.{State, Event, made, considered, Ending, ended, afterEvents, runLog, consider, moved}
 use Rattle.meaning.specs.Processing.{consideration, firstTriggered, steps, afterLog, process}
 use Rattle.meaning.specs.Processing.Actions.{Result, went, ends, onward}
-use Rattle.meaning.specs.Trace.{operationsIn, sinceOn, sinceLast, givenTo, joinedIn}
+use Rattle.meaning.specs.Trace.{operationsIn, considerationsIn, sinceOn, sinceLast, givenTo, joinedIn}
+use Rattle.meaning.proofs.Lists.{not-empty}
 
 -- ---- A choice
 
@@ -32,17 +34,17 @@ module _ {A : Type 0} where
     next : {past es : List A} {e : A} → P past e → Along P (past ++ (e ∷ [])) es → Along P past (e ∷ es)
 
   module _ {P : List A → A → Type 0} where
-    pub along-append : {past xs ys : List A} → Along P past xs → Along P (past ++ xs) ys → Along P past (xs ++ ys)
-    along-append {past} {ys = ys} stop b = rw append-nil at b
-    along-append {past} {ys = ys} (next {es = es} {e = e} p a) b = next p (along-append a (rw (← append-snoc past e es) at b))
-
     pub along-front : (xs ys : List A) {past : List A} → Along P past (xs ++ ys) → Along P past xs
     along-front [] ys a = stop
     along-front (x ∷ xs) ys (next p a) = next p (along-front xs ys a)
 
-    pub along-at : (before after : List A) (e : A) {past : List A} → Along P past (before ++ (e ∷ after)) → P (past ++ before) e
-    along-at [] after e (next p a) = rw append-nil p
-    along-at (x ∷ before) after e {past} (next p a) = rw (← append-snoc past x before) (along-at before after e a)
+    -- what holds at each place holds along the list
+    pub along-each : (es : List A) {past : List A} → ((before after : List A) (e : A) → es ≡ before ++ (e ∷ after) → P (past ++ before) e)
+        → Along P past es
+    along-each [] f = stop
+    along-each (x ∷ es) {past} f =
+        next (rw append-nil at (f [] es x refl))
+        (along-each es (λ before after e q. rw (append-snoc past x before) (f (x ∷ before) after e (ap (λ (l : List A). x ∷ l) q))))
 
 -- ---- The operations of a trace
 
@@ -56,6 +58,50 @@ pub operations-made : (os : List RowOperation) → operationsIn (map made os) �
 unfolding operationsIn
 operations-made [] = refl
 operations-made (o ∷ os) = ap (λ (more : List RowOperation). o ∷ more) (operations-made os)
+
+-- ---- Operations, and a consideration of rule k after them
+
+module _ (k : ℕ) (given : NetEffect) where
+  -- there is no consideration among operations
+  pub made-only : {A : Type 0} (new : List RowOperation) (before after : List Event) → map made new ≡ before ++ (considered k given ∷ after)
+      → A
+  made-only [] before after q = not-empty before (considered k given) after q
+  made-only (o ∷ new) [] after q = absurd (let z : _≡_ {A = ℕ} 0 1 = cc in omega arith)
+  made-only (o ∷ new) (e ∷ before) after q = made-only new before after (cc)
+
+  -- so one that comes after operations stands behind them
+  pub record Behind (new : List RowOperation) (es before after : List Event) : Type 0 where
+    pub between : List Event
+    pub past : before ≡ map made new ++ between
+    pub split : es ≡ between ++ (considered k given ∷ after)
+
+  pub behind : (new : List RowOperation) (es before after : List Event) → map made new ++ es ≡ before ++ (considered k given ∷ after)
+      → Behind new es before after
+  behind [] es before after q = record { between = before; past = refl; split = q }
+  behind (o ∷ new) es [] after q = absurd (let z : _≡_ {A = ℕ} 0 1 = cc in omega arith)
+  behind (o ∷ new) es (e ∷ before) after q =
+      go (cc) (behind new es before after (cc))
+    where
+      go : e ≡ made o → Behind new es before after → Behind (o ∷ new) es (e ∷ before) after
+      go same b = record { between = b .between; past = rw (same, b .past); split = b .split }
+
+-- ---- The considerations of a trace
+
+pub considerations-append : (es fs : List Event) → considerationsIn (es ++ fs) ≡ considerationsIn es + considerationsIn fs
+unfolding considerationsIn
+considerations-append [] fs = omega arith
+considerations-append (made o ∷ es) fs = considerations-append es fs
+considerations-append (considered k given ∷ es) fs = let h = considerations-append es fs in omega arith
+
+pub considerations-made : (os : List RowOperation) → considerationsIn (map made os) ≡ 0
+unfolding considerationsIn
+considerations-made [] = refl
+considerations-made (o ∷ os) = considerations-made os
+
+pub one-consideration : (rules : List Rule) (s : State) (k : ℕ) (new : List RowOperation)
+    → considerationsIn (consideration rules s k new) ≡ 1
+unfolding consideration considerationsIn
+one-consideration rules s k new = ap suc (considerations-made new)
 
 -- ---- The stretches of rule k
 

@@ -1,4 +1,4 @@
--- Checked runs: the cases of document 01, those marked * and M, N and O. Each is proved by computing it.
+-- Checked runs: the cases of document 01, those marked * and M, N and O, and two more, P and Q. Each is proved by computing it.
 use mathlib.Core.Path.{_≡_, refl}
 use mathlib.Core.List.{List, [], _∷_, _++_}
 use Prim.Native.Nat.{ℕ, zero, suc}
@@ -60,6 +60,10 @@ aDelete = 2 ∷ bytes4 1
 pub column3 : ℕ → List ℕ
 column3 v = part (bytes4 2 ++ (0 ∷ 1 ∷ (bytes4 1 ++ (0 ∷ replicate 12 0) ++ bytes4 v)))
 
+-- a row of a table, with a value in column 3
+pub row3 : ℕ → ℕ → ℕ → List ℕ
+row3 h t v = bytes4 h ++ (t ∷ replicate 12 0) ++ bytes4 v
+
 -- sets it
 pub set3 : ℕ → List ℕ
 set3 v = part (0 ∷ 1 ∷ 3 ∷ (bytes4 1 ++ (8 ∷ bytes4 v)))
@@ -72,6 +76,17 @@ rollsBack = part (0 ∷ 1 ∷ 1 ∷ 1 ∷ 0 ∷ 4 ∷ 8 ∷ 0 ∷ 0 ∷ 0 ∷ 1 
 pub addsOne : ℕ → List ℕ
 addsOne limit =
     part (0 ∷ limit ∷ 1 ∷ 1 ∷ 0 ∷ 4 ∷ 8 ∷ 0 ∷ 0 ∷ 0 ∷ 1 ∷ 4 ∷ 0 ∷ 8 ∷ 2 ∷ 3 ∷ (bytes4 1 ++ (1 ∷ 2 ∷ 3 ∷ bytes4 5)))
+
+-- a rule on updates of column 3 that rolls back if a row of its table has more than 5 there
+pub rollsBackAbove5 : List ℕ
+rollsBackAbove5 = part (0 ∷ 1 ∷ 1 ∷ 1 ∷ 0 ∷ 4 ∷ 8 ∷ 0 ∷ 0 ∷ (1 ∷ 0 ∷ 1 ∷ 4 ∷ 3 ∷ bytes4 5) ++ (1 ∷ 0 ∷ []))
+
+-- a rule on updates of column 3 that puts the old rows into table 1, and adds 1 to the column where it is below 2
+pub keepsOldRows : List ℕ
+keepsOldRows =
+    part (0 ∷ 5 ∷ 1 ∷ 1 ∷ 0 ∷ 4 ∷ 8 ∷ 0 ∷ 0 ∷ 0 ∷ 2 ∷
+    2 ∷ 1 ∷ 7 ∷ 0 ∷ 1 ∷ 0 ∷ 1 ∷ 1 ∷ 1 ∷ 2 ∷ 1 ∷ 3 ∷
+    4 ∷ 0 ∷ 8 ∷ 2 ∷ 3 ∷ (bytes4 1 ++ (1 ∷ 2 ∷ 3 ∷ bytes4 2)))
 
 -- a rule that precedes those of a mask
 pub ruleBefore : ℕ → List ℕ
@@ -147,9 +162,13 @@ pub record CheckedRuns : Type 0 where
   pub N : Run [] emptyBook emptyLog (refusedWith imageMalformed) []
   -- whole
   pub O : printed (imageO ++ bookO ++ logO) ≡ ascii "0 0 1 6 4\n1 0 7 1 10 0\n2 0 7 2 11 0\n3 1 7 1 501 0\n5 1 8 1 503 0\n"
+  -- a rule whose condition does not hold is considered, and does nothing
+  pub P : Run (column3 0) rollsBackAbove5 (set3 1) (ran commit 1) (column3 1)
+  -- a rule considered again is given only what was done since: its old row is then not the first one
+  pub Q : Run (column3 0) keepsOldRows (set3 1) (ran commit 2) (part (bytes4 4 ++ (0 ∷ 3 ∷ (row3 1 0 2 ++ row3 2 1 0 ++ row3 3 1 1))))
 
 pub checkedRuns : CheckedRuns
-unfolding everything said part rowsFrom emptyBook emptyLog anInsert aDelete column3 set3 rollsBack addsOne ruleBefore three two full64 nearTheEnd imageO bookO logO
+unfolding everything said part rowsFrom emptyBook emptyLog anInsert aDelete column3 row3 set3 rollsBack addsOne rollsBackAbove5 keepsOldRows ruleBefore three two full64 nearTheEnd imageO bookO logO
 checkedRuns =
     record {
       A = λ h m r s t e f. rw (eq-eqb (r .handle) h e, eq-eqb (s .handle) h f);
@@ -170,4 +189,6 @@ checkedRuns =
       M = refl;
       N = refl;
       O = refl;
+      P = refl;
+      Q = refl;
     }

@@ -4,21 +4,24 @@ use mathlib.Core.Logic.{_≢_}
 use mathlib.Core.Bool.{Bool, true, false, _&&_}
 use mathlib.Core.List.{List, [], _∷_, _++_, map}
 use mathlib.Core.Option.{Option, none, some}
-use Prim.Native.Nat.{ℕ, _+_, _*_, _≤_, _<_}
+use Prim.Native.Nat.{ℕ, suc, _+_, _*_, _≤_, _<_}
 use lib.Dec.{eqb, ltb}
 use lib.ListN.{length, getElem?}
 use Rattle.meaning.specs.Base.{if_then_else_, any, all}
 use Rattle.meaning.specs.Reading.{readAll}
-use Rattle.meaning.specs.Covers.{mostRows, Row, Image, Book, Rule, LogOperation, commit}
+use Rattle.meaning.specs.Covers.{mostRows, Row, Image, Book, Rule, Query, LogOperation, commit, stepLimit}
 use Rattle.meaning.specs.ByteLayouts
 use Rattle.meaning.specs.ByteLayouts.{imageBytes, rising}
 use Rattle.meaning.specs.RowOperations.{Effect, RowOperation, NetEffect, inserts, nothing, kind, unreachable, joinKind, join, single, net, netEffect, effectAt, rowAt, makeAll}
-use Rattle.meaning.specs.Processing.{Ending, Event, made, considered, process}
-use Rattle.meaning.specs.Processing.TransitionTables.{wakes}
+use Rattle.meaning.specs.Processing.{Ending, Event, made, considered, runLog, runActions, considerRule, process}
+use Rattle.meaning.specs.Processing.TransitionTables.{wakes, transition}
+use Rattle.meaning.specs.Processing.Queries.{chosen}
+use Rattle.meaning.specs.Processing.Actions.{went}
 use Rattle.meaning.specs.Processing.TotalOrder.{precedesRule, totalOrder}
 use Rattle.meaning.specs.EntryPoints.{Refusal, Verdict, refused, accepted, verdict, JudgedBook, refusedBook, acceptedBook, judgeBook, precedesCycle, written}
 use Rattle.meaning.specs.EntryPoints.{RunResult, CheckResult, run, checkBook, ruleBytes, outcomeNumber, reasonNumber}
-use Rattle.meaning.specs.Trace.{operationsIn, sinceLast, givenTo, joinedIn, masksOn, deletedIn, fromOutside, Differs}
+use Rattle.meaning.specs.Trace.{operationsIn, considerationsIn, sinceLast, givenTo, joinedIn, Makes}
+use Rattle.meaning.specs.Trace.{masksOn, deletedIn, fromOutside, Differs}
 
 -- ---- The runs that are spoken of
 
@@ -50,6 +53,8 @@ module _ {image book log : List ℕ} (a : Accepted image book log) where
   pub record Ends : Type 0 where
     pub known : outcomeNumber (endingOf a .outcome) ≤ 3
     pub counted : endingOf a .count ≤ a .ruleBook .limit
+    -- the count is the number of considerations in the trace
+    pub exact : endingOf a .count ≡ considerationsIn (endingOf a .trace)
     pub reasonless : outcomeNumber (endingOf a .outcome) ≢ 3 → reasonNumber (endingOf a .outcome) ≡ 0
     pub reasoned : outcomeNumber (endingOf a .outcome) ≡ 3 → reasonNumber (endingOf a .outcome) ≢ 0
     -- unless it commits, the image handed back is the start image's bytes exactly
@@ -73,6 +78,20 @@ module _ {image book log : List ℕ} (a : Accepted image book log) where
         → (r : Rule) × (getElem? (a .ruleBook .rules) k ≡ some r) × (r .active ≡ true)
     pub exactly : (before after : List Event) (k : ℕ) (given : NetEffect) → endingOf a .trace ≡ before ++ (considered k given ∷ after)
         → given ≡ netEffect (sinceLast k before)
+    -- what it is given wakes it
+    pub woken : (before after : List Event) (k : ℕ) (given : NetEffect) → endingOf a .trace ≡ before ++ (considered k given ∷ after)
+        → (r : Rule) → getElem? (a .ruleBook .rules) k ≡ some r → any (λ p. wakes r (p .1)) given ≡ true
+    -- and it is the first: no active rule before it in total order is triggered by what waits for it
+    pub first : (before after : List Event) (k : ℕ) (given : NetEffect) → endingOf a .trace ≡ before ++ (considered k given ∷ after)
+        → (xs ys : List ℕ) → a .order ≡ xs ++ (k ∷ ys) → (j : ℕ) → any (eqb j) xs ≡ true
+        → (q : Rule) → getElem? (a .ruleBook .rules) j ≡ some q → q .active ≡ true
+        → any (λ p. wakes q (p .1)) (netEffect (sinceLast j before)) ≡ false
+    -- what follows is exactly what the rule, with what it is given, makes of the image as it is then
+    pub acts : (before after : List Event) (k : ℕ) (given : NetEffect) → endingOf a .trace ≡ before ++ (considered k given ∷ after)
+        → (r : Rule) → getElem? (a .ruleBook .rules) k ≡ some r
+        → Makes (endingOf a) (suc (considerationsIn before)) (considerRule r given (makeAll (operationsIn before) (a .start))) after
+    -- and the trace begins with exactly what the log makes of the start image
+    pub begins : Makes (endingOf a) 0 (runLog (a .operations) (a .start)) (endingOf a .trace)
 
   -- ---- 4. Joined
 
@@ -98,6 +117,11 @@ module _ {image book log : List ℕ} (a : Accepted image book log) where
     -- no active rule is triggered by what waits for it
     pub quiet : endingOf a .outcome ≡ commit → (k : ℕ) (r : Rule) → getElem? (a .ruleBook .rules) k ≡ some r → r .active ≡ true
         → any (λ p. wakes r (p .1)) (netEffect (sinceLast k (endingOf a .trace))) ≡ false
+    -- a run stops at the step limit only where the limit has been reached
+    pub limited : endingOf a .outcome ≡ stepLimit → endingOf a .count ≡ a .ruleBook .limit
+    -- and some active rule is triggered by what waits for it
+    pub triggered : endingOf a .outcome ≡ stepLimit → (k : ℕ) × (r : Rule) × (getElem? (a .ruleBook .rules) k ≡ some r) × (r .active ≡ true)
+        × (any (λ p. wakes r (p .1)) (netEffect (sinceLast k (endingOf a .trace))) ≡ true)
     -- the final rows are the start rows, less the deleted, plus the inserted; every other row differs at most in the columns listed
     pub rows : (h : ℕ) → Differs (net h (operationsIn (endingOf a .trace))) (rowAt h (a .start .rows)) (rowAt h (endingOf a .image .rows))
 
@@ -132,6 +156,18 @@ RoundTrip = (s : List ℕ) (m : Image) → readAll ByteLayouts.image s ≡ some 
 -- a net effect says of each handle what `net` says
 abbrev pub SaysNet : Type 0
 SaysNet = (h : ℕ) (os : List RowOperation) → effectAt h (netEffect os) ≡ net h os
+
+-- ---- 3. Conditions
+
+-- a rule's actions run, with the transition tables of what it is given, if its condition is absent or its query yields a row, and only then
+pub record Conditions : Type 0 where
+  pub absent : (r : Rule) (given : NetEffect) (m : Image) → r .condition ≡ none
+      → considerRule r given m ≡ runActions (transition r (m .rows) given) (r .actions) m
+  pub yields : (r : Rule) (given : NetEffect) (m : Image) (q : Query) → r .condition ≡ some q
+      → (x : Row) (xs : List Row) → chosen (transition r (m .rows) given) (m .rows) q ≡ x ∷ xs
+      → considerRule r given m ≡ runActions (transition r (m .rows) given) (r .actions) m
+  pub empty : (r : Rule) (given : NetEffect) (m : Image) (q : Query) → r .condition ≡ some q
+      → chosen (transition r (m .rows) given) (m .rows) q ≡ [] → considerRule r given m ≡ went []
 
 -- ---- 7. Order
 

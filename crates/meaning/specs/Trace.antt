@@ -1,23 +1,30 @@
--- What is said of a trace: its operations, the stretches between the considerations of a rule, and what a handle's rows and masks alone
--- say of a stretch, without the join table.
+-- What is said of a trace: its operations, the stretches between the considerations of a rule, what follows the log and a consideration,
+-- and what a handle's rows and masks alone say of a stretch, without the join table.
 use mathlib.Core.Path.{_≡_}
 use mathlib.Core.Bool.{Bool, true, false, _&&_}
-use mathlib.Core.List.{List, [], _∷_, _++_}
+use mathlib.Core.List.{List, [], _∷_, _++_, map}
 use mathlib.Core.Option.{Option, none, some}
-use Prim.Native.Nat.{ℕ}
+use Prim.Native.Nat.{ℕ, suc}
 use lib.Dec.{eqb}
 use lib.Bits.{bitOr}
 use Rattle.meaning.specs.Base.{if_then_else_, bit}
-use Rattle.meaning.specs.Covers.{Row, Image}
+use Rattle.meaning.specs.Covers.{Row, Image, Outcome, commit, stepLimit}
 use Rattle.meaning.specs.RowOperations.{RowOperation, inserts, deletes, updates, Effect, NetEffect, makeAll, join, effectAt, nothing, inserted, deleted, updated}
-use Rattle.meaning.specs.Processing.{Event, made, considered}
+use Rattle.meaning.specs.Processing.{Event, made, considered, Ending}
 use Rattle.meaning.specs.Processing.Queries.{cell}
+use Rattle.meaning.specs.Processing.Actions.{Result, went, ends}
 
 -- the row operations of a trace, in order
 unfoldable pub operationsIn : List Event → List RowOperation
 operationsIn [] = []
 operationsIn (made o ∷ es) = o ∷ operationsIn es
 operationsIn (considered k given ∷ es) = operationsIn es
+
+-- how many considerations it holds
+unfoldable pub considerationsIn : List Event → ℕ
+considerationsIn [] = 0
+considerationsIn (made o ∷ es) = considerationsIn es
+considerationsIn (considered k given ∷ es) = suc (considerationsIn es)
 
 -- ---- The stretches of rule k
 
@@ -41,6 +48,22 @@ module _ (k : ℕ) where
 unfoldable pub joinedIn : ℕ → Effect → List NetEffect → Effect
 joinedIn h e [] = e
 joinedIn h e (n ∷ ns) = joinedIn h (join e (effectAt h n)) ns
+
+-- ---- What follows the log, and a consideration, in a run that ends as e
+
+-- where the operations of a step stop: at the next consideration, or at the end, where the run commits or has reached the limit
+pub data Rest (e : Ending) : List Event → Type 0 where
+  further : {k : ℕ} {given : NetEffect} {es : List Event} → Rest e (considered k given ∷ es)
+  atCommit : e .outcome ≡ commit → Rest e []
+  atLimit : e .outcome ≡ stepLimit → Rest e []
+
+-- What follows is exactly the operations of a result, and then the rest; or, where the result ends the run, exactly its operations and no
+-- more: then the run's outcome is the result's, and its count is the one given here.
+pub data Makes (e : Ending) (count : ℕ) (result : Result) (events : List Event) : Type 0 where
+  goesOn : (new : List RowOperation) (rest : List Event) → result ≡ went new → events ≡ map made new ++ rest → Rest e rest
+      → Makes e count result events
+  endsRun : (o : Outcome) (new : List RowOperation) → result ≡ ends o new → events ≡ map made new → e .outcome ≡ o → e .count ≡ count
+      → Makes e count result events
 
 -- ---- A handle from outside
 

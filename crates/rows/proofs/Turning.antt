@@ -1,13 +1,15 @@
 -- What a row operation leaves in the room. It changes the live rows and the next handle, which stand in front of all other tables, and then
 -- what waits for the rules, which stands behind them: so what waits is joined as it was, and what stands between stays.
-use mathlib.Core.Path.{_≡_, sym, ap, _∙_}
-use mathlib.Core.Bool.{Bool, false}
+use mathlib.Core.Path.{_≡_, refl, sym, ap, _∙_}
+use mathlib.Core.Bool.{Bool, true, false}
 use mathlib.Core.List.{List, [], _∷_, _++_}
 use Prim.Native.Nat.{ℕ, suc, _+_, _≤_, _<_}
 use native.Mathlib.Numerals.{add-one}
 use native.Mathlib.Omega.{arith}
-use borrow.Author.Tests.{lt-ltb, le-ltb}
+use borrow.Author.Tests.{lt-ltb, le-ltb, ltb-false}
+use lib.Dec.{ltb}
 use lib.ListN.{getD, set}
+use Rattle.meaning.specs.Base.{if_then_else_}
 use Rattle.words.specs.Words.{word32At}
 use Rattle.slots.specs.declared.Slot.{Slot}
 use Rattle.slots.specs.declared.Found.{Found}
@@ -184,3 +186,14 @@ module _ (live next n : ℕ) where
   pub space-enough : live + n ≤ 64 → next + n ≤ 4294967295 → Enough ≡ spaceFor live next n
   unfolding spaceFor
   space-enough h u = rw (le-ltb 64 (live + n) h, le-ltb 4294967295 (next + n) u)
+
+  -- and the other way
+  pub enough-space : spaceFor live next n ≡ Enough → (live + n ≤ 64) × (next + n ≤ 4294967295)
+  unfolding spaceFor
+  enough-space q = by (ltb 64 (live + n)) refl (ltb 4294967295 (next + n)) refl q
+    where
+      by : (t : Bool) → ltb 64 (live + n) ≡ t → (u : Bool) → ltb 4294967295 (next + n) ≡ u
+          → (if t then Full else if u then UsedUp else Enough) ≡ Enough → (live + n ≤ 64) × (next + n ≤ 4294967295)
+      by true a u b e = absurd (let z : _≡_ {A = ℕ} 0 1 = cc in omega arith)
+      by false a true b e = absurd (let z : _≡_ {A = ℕ} 0 1 = cc in omega arith)
+      by false a false b e = (ltb-false 64 (live + n) a, ltb-false 4294967295 (next + n) b)

@@ -1,3 +1,4 @@
 pub mod Lookups
 pub mod Effects
 pub mod Drawing
+pub mod Afterwards

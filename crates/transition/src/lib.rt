@@ -70,6 +70,7 @@ fn draw_one(room: &mut [u8], rule: Watch, e: Slot)
     }
 }
 
+// The four transition tables have no row any more.
 fn empty_tables(room: &mut [u8])
     requires { ⌜ END ≤ length (now room) ⌝ }
     ensures { λ _. ⌜ Emptied (now (room .entry)) (now (room .exit)) ⌝ }

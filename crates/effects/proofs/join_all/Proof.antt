@@ -1,6 +1,6 @@
 -- `effects::join_all` meets its contract: before turn `k` the tables of the rules below `k` are joined and the others are as they were.
 use mathlib.Core.Logic.{⊎-elim}
-use Prim.Native.Nat.{_-_}
+use Prim.Native.Nat.{_-_, _<_}
 use native.Mathlib.Omega.{arith}
 use Rattle.effects.proofs.AllTables.{Upto, upto-start, next-takes, turn-yes, turn-no, upto-done}
 use Rattle.effects.proofs.join_all.Statement.{statement}
@@ -17,20 +17,19 @@ join-table-requires c κs =
     let test = c .before in
     let turn = test .before in
     let at-loop = turn .before in
-    let start = at-loop .before .before in (
-      at-loop .loop .inv .stands _ (turn .loop-test .taken),
-      next-takes (start .pre) _ (at-loop .loop .inv) (turn .loop-test .taken) (test .if1 .taken),
-    )
+    let start = at-loop .before .before in
+    let within : at-loop .loop .k < 16 = omega arith in
+    (at-loop .loop .inv .stands _ within, next-takes (start .pre) _ (at-loop .loop .inv) within (test .if1 .taken))
 
 loop-again : tie.Need-loop-again Inv-loop μ-loop
 loop-again c =
     let turn = c .before in
     let at-loop = turn .before in
     let start = at-loop .before .before in
-    let test = turn .loop-test .taken in
+    let within : at-loop .loop .k < 16 = omega arith in
     ⊎-elim
-    (λ w. rw (w .5) (turn-yes (start .pre) _ (at-loop .loop .inv) test (w .0 .taken) (w .2 .ensures)))
-    (λ w. rw (w .1) (turn-no (start .pre) _ (at-loop .loop .inv) test (w .0 .left)))
+    (λ w. rw (w .5) (turn-yes (start .pre) _ (at-loop .loop .inv) within (w .0 .taken) (w .2 .ensures)))
+    (λ w. rw (w .1) (turn-no (start .pre) _ (at-loop .loop .inv) within (w .0 .left)))
     (c .if1 .came)
 
 returns : tie.Need-returns Inv-loop μ-loop

@@ -13,9 +13,15 @@ returns c = sym (rw (← c .before .join-kind .ensures, eq-eqb _ 2 (c .if1 .take
 returns-2 : tie.Need-returns-2
 unfolding joinSlot joinedSlot
 returns-2 c =
-    let second = c .before .before .before in
+    let second = c .before .before in
     let first = second .before in
-    rw (c .as-effect .ensures, ← first .before .join-kind .ensures, ne-eqb _ 2 (first .if1 .left), eq-eqb _ 3 (second .if2 .taken))
+    rw (
+      c .as-effect .ensures,
+      c .before .united .ensures,
+      ← first .before .join-kind .ensures,
+      ne-eqb _ 2 (first .if1 .left),
+      eq-eqb _ 3 (second .if2 .taken),
+    )
 
 returns-3 : tie.Need-returns-3
 unfolding joinSlot joinedSlot
@@ -47,4 +53,4 @@ returns-4 c =
 pub join-slot-spec : {M : Type 1} → statement M
 join-slot-spec =
     tie.close
-    (tie.spec (λ c κs. search needs) returns (λ c κs. search needs) returns-2 (λ c κs. search needs) returns-3 returns-4)
+    (tie.spec (λ c κs. search needs) returns (λ c κs. search needs) (λ c κs. search needs) returns-2 (λ c κs. search needs) returns-3 returns-4)
