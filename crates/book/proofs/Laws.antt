@@ -19,7 +19,7 @@ use Rattle.words.proofs.Laws.{split, number16-read, number16-short, short-bad, 
 use Rattle.fields.specs.Fields.{wellFramed}
 use Rattle.fields.proofs.Laws.{frame-refused, fields-refused, length-refused, fields-taken}
 use Rattle.terms.proofs.Laws.{looked-within, looked-above}
-use Rattle.book.specs.Books.{columnsFit}
+use Rattle.book.specs.Books.{columnsFit, WellFormed}
 
 -- ---- Masks
 
@@ -128,3 +128,7 @@ module _ (s : List ℕ) (b : Bytes s) (framed : wellFramed s ≡ true) (here : 7
         (rw (number16-read s b 5 here, ← is, le-leb 1 l low, le-leb l 1000 high, looked-within look 0 16 (omega arith) h)
         (rw (ends-readable (rule n) n s 8 next e)))
         end
+
+    pub book-well-formed : n ≤ 16 → (next : ℕ) → endOf (many n (rule n) s 8) ≡ At next → next ≡ length s → WellFormed s l n
+    book-well-formed h next e end =
+        record { few = h; read = rw (← end) (ends-readable (rule n) n s 8 next e); book = book-read h next e end }

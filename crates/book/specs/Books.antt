@@ -1,12 +1,14 @@
 -- What the decoders of actions, rules and books answer.
+use mathlib.Core.Path.{_≡_}
 use mathlib.Core.Bool.{Bool, true, false}
 use mathlib.Core.List.{List, []}
 use mathlib.Core.Option.{Option, none, some}
-use Prim.Native.Nat.{ℕ, _+_}
+use Prim.Native.Nat.{ℕ, _+_, _≤_}
 use lib.Count.{ones}
 use lib.Dec.{eqb}
+use lib.ListN.{length}
 use Rattle.meaning.specs.Base.{if_then_else_, bit, within}
-use Rattle.meaning.specs.Reading.{Read, bad, got, onFrom}
+use Rattle.meaning.specs.Reading.{Read, bad, got, onFrom, many, readAll}
 use Rattle.meaning.specs.Covers as Covers
 use Rattle.meaning.specs.ByteLayouts as ByteLayouts
 use Rattle.meaning.specs.EntryPoints.{firstRule}
@@ -112,3 +114,14 @@ ruleOr s (ruleRead.Is r next) = got (ruleMeant s r) next
 unfoldable pub bookOr : List ℕ → BookRead → Option Covers.Book
 bookOr s bookRead.Bad = none
 bookOr s (bookRead.Is limit count) = some (record { limit = limit; rules = readable count (ByteLayouts.rule count) s firstRule })
+
+-- the slice is a well-formed book, with this step limit and so many rules, which stand one after another up to its end
+pub record WellFormed (s : List ℕ) (limit count : ℕ) : Type 0 where
+  pub few : count ≤ 16
+  pub read : many count (ByteLayouts.rule count) s 8 ≡ got (readable count (ByteLayouts.rule count) s 8) (length s)
+  pub book : readAll ByteLayouts.book s ≡ some (record { limit = limit; rules = readable count (ByteLayouts.rule count) s 8 })
+
+-- what an answer tells of the slice, its rule count too: a well-formed book, or nothing
+abbrev pub Told : List ℕ → BookRead → Type 0
+Told s bookRead.Bad = Unit {0}
+Told s (bookRead.Is limit count) = WellFormed s limit count

@@ -10,7 +10,7 @@ ghost use Rattle.meaning.specs.ByteLayouts as ByteLayouts;
 ghost use Rattle.meaning.specs.ByteLayouts.{rule};
 ghost use Rattle.meaning.specs.EntryPoints.{firstRule, ruleAfter};
 ghost use Rattle.words.specs.Words.{endOf};
-ghost use Rattle.book.specs.Books.{actionOr, actionsOr, conditionOr, columnsFit, headThen, headEnd, ruleOr, bookOr};
+ghost use Rattle.book.specs.Books.{actionOr, actionsOr, conditionOr, columnsFit, headThen, headEnd, ruleOr, bookOr, Told};
 use terms::Query;
 use terms::QueryRead;
 use terms::Terms;
@@ -388,6 +388,7 @@ pub fn rules_end(s: &[u8], n: usize, at: usize, k: usize) -> End
 // The step limit and the number of rules, where the book is well formed.
 pub fn judge(s: &[u8]) -> BookRead
     ensures { λ r. ⌜ bookOr (now (s .entry)) r ≡ readAll ByteLayouts.book (now (s .entry)) ⌝ }
+    ensures { λ r. ⌜ Told (now (s .entry)) r ⌝ }
 {
     if !fields::well_framed(s) {
         return BookRead::Bad;

@@ -1,0 +1,98 @@
+-- Operations made one after another on the room: each leads from a room that represents a state to one that represents the state after it,
+-- and leaves the transition tables, the chosen rows and those worked out as they were. So all of an action's operations do.
+use mathlib.Core.Path.{_≡_}
+use mathlib.Core.Bool.{Bool}
+use mathlib.Core.List.{List, [], _∷_, _++_}
+use Prim.Native.Nat.{ℕ, suc, _-_, _≤_, _<_}
+use native.Mathlib.Omega.{arith}
+use lib.ListN.{length, getD, take}
+use lib.Seq.{take-suc}
+use Rattle.meaning.specs.Covers.{Image}
+use Rattle.meaning.specs.RowOperations.{RowOperation}
+use Rattle.meaning.specs.Processing.{State}
+use Rattle.meaning.specs.Processing.Actions.{Result, went}
+use Rattle.meaning.proofs.Made.{Fits, Made, more, Made.none as noneMade}
+use Rattle.meaning.proofs.Lookups.{made-append}
+use Rattle.slots.specs.declared.Slot.{Slot}
+use Rattle.room.specs.Room.{INSERTED, WAITS, END, Kept}
+use Rattle.room.specs.Turned.{Turned}
+use Rattle.room.specs.Represents.{Represents, Reached, Running, madeOne, madeAll}
+use Rattle.room.proofs.Steps.{madeAll-none, madeAll-one, madeAll-append, reached-all}
+use Rattle.changes.specs.declared.Step.the-variants.{Went}
+use Rattle.changes.specs.Steps.{goesOn, Acts}
+use Rattle.changes.proofs.Keeping.{kept-refl, kept-trans, transition-kept}
+
+-- operations fit the image of a state, and a room represents the state after them
+pub record Leads (ys : List ℕ) (active : List Bool) (os : List RowOperation) (s : State) : Type 0 where
+  pub made : Made (s .image) os
+  pub represents : Represents ys active (madeAll os s)
+
+pub record Moves (xs ys : List ℕ) (active : List Bool) (os : List RowOperation) : Type 0 where
+  pub between : Kept INSERTED WAITS xs ys
+  pub beyond : Kept END (length xs) xs ys
+  pub leads : (start : Image) (s : State) → Reached start s → Represents xs active s → Leads ys active os s
+
+pub moves-none : {xs : List ℕ} {active : List Bool} → Moves xs xs active []
+moves-none {xs} {active} =
+    record {
+      between = kept-refl;
+      beyond = kept-refl;
+      leads = λ start s r p. record { made = noneMade; represents = rw (madeAll-none s) p };
+    }
+
+pub moves-one : {xs ys : List ℕ} {active : List Bool} {live : List Slot} {next : ℕ} {op : Slot} (o : RowOperation)
+    → Turned xs ys active live next op
+    → ((start : Image) (s : State) → Reached start s → Represents xs active s → Fits (s .image) o × Represents ys active (madeOne o s))
+    → Moves xs ys active (o ∷ [])
+moves-one o t f =
+    record {
+      between = t .between;
+      beyond = t .beyond;
+      leads = λ start s r p.
+          let g = f start s r p in
+          record { made = more (g .0) noneMade; represents = rw (madeAll-one o s) (g .1) };
+    }
+
+pub moves-more : {xs ys zs : List ℕ} {active : List Bool} {os ps : List RowOperation} → Moves xs ys active os → Moves ys zs active ps
+    → Moves xs zs active (os ++ ps)
+unfolding madeAll
+moves-more {xs} {ys} {zs} {os = os} {ps = ps} f g =
+    let same : length ys ≡ length xs = f .beyond .len in
+    record {
+      between = kept-trans (f .between) (g .between);
+      beyond = kept-trans (f .beyond) (rw same at (g .beyond));
+      leads = λ start s r p.
+          let a = f .leads start s r p in
+          let b = g .leads start (madeAll os s) (reached-all r (a .made)) (a .represents) in
+          record { made = made-append (a .made) (b .made); represents = rw (madeAll-append os ps s) (b .represents) };
+    }
+
+-- the operation at a place, after all before it
+pub moves-next : {xs ys zs : List ℕ} {active : List Bool} (os : List RowOperation) (i : ℕ) (d o : RowOperation) → i < length os
+    → getD os i d ≡ o → Moves xs ys active (take i os) → Moves ys zs active (o ∷ []) → Moves xs zs active (take (suc i) os)
+moves-next os i d o b e f g = rw (take-suc os i d b, e) (moves-more f g)
+
+pub moves-running : {xs ys : List ℕ} {active : List Bool} {os : List RowOperation} → Running xs active → Moves xs ys active os
+    → Running ys active
+moves-running {os = os} run f =
+    let l = f .leads (run .start) (run .state) (run .reached) (run .represents) in
+    record {
+      start = run .start;
+      state = madeAll os (run .state);
+      reached = reached-all (run .reached) (l .made);
+      represents = l .represents;
+    }
+
+pub moves-acts : {xs ys : List ℕ} {active : List Bool} (os : List RowOperation) {f : Image → Result} → Running xs active
+    → Moves xs ys active os → ((s : State) → Represents xs active s → f (s .image) ≡ went os) → Acts xs ys active f Went
+moves-acts os run m is =
+    record {
+      laid = moves-running run m .represents .laid;
+      shown = transition-kept (run .represents .laid) (m .between);
+      beyond = m .beyond;
+      follows = λ start s r p. rw (is s p) (goesOn (m .leads start s r p .represents));
+    }
+
+-- one less is left: one more is done
+pub turn : {n left : ℕ} → left ≤ n → 0 < left → n - (left - 1) ≡ suc (n - left)
+turn a b = omega arith

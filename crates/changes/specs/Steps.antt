@@ -1,0 +1,48 @@
+-- What an operation of the log or an action of a rule leaves in the working room, by what the specification says of it.
+use mathlib.Core.Path.{_≡_}
+use mathlib.Core.Bool.{Bool}
+use mathlib.Core.List.{List, map}
+use Prim.Native.Nat.{ℕ}
+use lib.ListN.{length}
+use Rattle.meaning.specs.Covers.{Image, Reason, rolledBack, failed}
+use Rattle.meaning.specs.RowOperations.{RowOperation}
+use Rattle.meaning.specs.Processing.{State}
+use Rattle.meaning.specs.Processing.Actions.{Result, went, ends}
+use Rattle.meaning.specs.EntryPoints.{failureNumber}
+use lib.IntN.{ℤ}
+use Rattle.meaning.specs.Processing.Actions.{updateAll}
+use Rattle.slots.specs.Slots.{tableAt}
+use Rattle.room.specs.Room.{WORKED, CHOSEN, END, Laid, Kept, rowMeant, rowsMeant, rowsWith, transitionIn}
+use Rattle.room.specs.Represents.{Represents, Reached, madeAll}
+use Rattle.changes.specs.declared.Step.{Step}
+use Rattle.changes.specs.declared.Step.the-variants.{Went, RolledBack, Failed}
+
+-- the room after a result: it went on, and the room represents the state with the operations made; or the run ends
+pub data Follows (ys : List ℕ) (active : List Bool) (s : State) : Result → Step → Type 0 where
+  goesOn : {os : List RowOperation} → Represents ys active (madeAll os s) → Follows ys active s (went os) Went
+  rollsBack : {os : List RowOperation} → Follows ys active s (ends rolledBack os) RolledBack
+  fails : {r : Reason} {os : List RowOperation} → Follows ys active s (ends (failed r) os) (Failed (failureNumber r))
+
+-- the step that the specification says, for every state that the room represents; transition tables stay, and so does what stands past
+-- the tables
+pub record Acts (xs ys : List ℕ) (active : List Bool) (f : Image → Result) (r : Step) : Type 0 where
+  pub laid : Laid ys
+  pub shown : transitionIn ys ≡ transitionIn xs
+  pub beyond : Kept END (length xs) xs ys
+  pub follows : (start : Image) (s : State) → Reached start s → Represents xs active s → Follows ys active s (f (s .image)) r
+
+-- the values of the rows worked out
+unfoldable pub valuesIn : List ℕ → List (List ℤ)
+valuesIn xs = map (λ e. rowMeant e .values) (tableAt xs WORKED)
+
+-- the rows worked out are the chosen ones, each with values for the columns of a mask
+pub record Rewritten (xs : List ℕ) (mask : ℕ) : Type 0 where
+  pub values : List (List ℤ)
+  pub each : length values ≡ length (tableAt xs CHOSEN)
+  pub rows : rowsMeant (tableAt xs WORKED) ≡ rowsWith mask (rowsMeant (tableAt xs CHOSEN)) values
+
+-- the update of the chosen rows, for whatever values they were worked out from
+pub record UpdatesAll (xs ys : List ℕ) (active : List Bool) (mask : ℕ) : Type 0 where
+  pub acts : (vss : List (List ℤ)) → length vss ≡ length (tableAt xs CHOSEN)
+      → rowsMeant (tableAt xs WORKED) ≡ rowsWith mask (rowsMeant (tableAt xs CHOSEN)) vss
+      → Acts xs ys active (λ m. updateAll mask (rowsMeant (tableAt xs CHOSEN)) vss) Went

@@ -1,0 +1,81 @@
+// Row operations over all rows that an action chose or worked out, one after another.
+ghost use mathlib.Core.Path.{_≡_};
+ghost use Prim.Native.Nat.{_≤_};
+ghost use Rattle.meaning.specs.Processing.Actions.{deleteAll, insertAll, updateAll};
+ghost use Rattle.meaning.proofs.ActionsFit.{Taken};
+ghost use Rattle.slots.specs.Slots.{tableAt};
+ghost use Rattle.room.specs.Room.{CHOSEN, WORKED, liveRows, rowsMeant};
+ghost use Rattle.room.specs.Represents.{Running};
+ghost use Rattle.changes.specs.Steps.{Acts, valuesIn, Rewritten, UpdatesAll};
+use rows::Space;
+
+// It went on, or ends the run: rolled back, or failed for a reason 1..4.
+pub enum Step {
+    Went,
+    RolledBack,
+    Failed(usize),
+}
+
+// The low byte of a number.
+pub fn narrow(x: usize) -> u8
+    ensures { λ r. ⌜ (x ≤ 255 → r ≡ x) ⌝ }
+{
+    (x % 256) as u8
+}
+
+// Inserts a row for each that was worked out.
+pub fn insert_all(room: &mut [u8], active: [bool; 16], table: usize) -> Step
+    requires { ⌜ Running (now room) active ⌝ }
+    requires { ⌜ table ≤ 3 ⌝ }
+    ensures { λ r. ⌜ Acts (now (room .entry)) (now (room .exit)) active (insertAll table (valuesIn (now (room .entry)))) r ⌝ }
+{
+    let n = slots::size(room, room::WORKED);
+    match rows::space_for(room, n) {
+        Space::Full => {
+            return Step::Failed(2);
+        }
+        Space::UsedUp => {
+            return Step::Failed(3);
+        }
+        Space::Enough => {}
+    }
+    let mut left = n;
+    while 0 < left {
+        let e = slots::slot_at(room, room::WORKED, room::ROWS, n - left);
+        rows::insert_row(room, active, narrow(table), e);
+        left -= 1;
+    }
+    Step::Went
+}
+
+// Deletes every chosen row.
+pub fn delete_all(room: &mut [u8], active: [bool; 16])
+    requires { ⌜ Running (now room) active ⌝ }
+    requires { ⌜ Taken (liveRows (now room)) 0 (rowsMeant (tableAt (now room) CHOSEN)) ⌝ }
+    ensures { λ _. ⌜ Acts (now (room .entry)) (now (room .exit)) active (λ m. deleteAll (rowsMeant (tableAt (now (room .entry)) CHOSEN))) Step.Went ⌝ }
+{
+    let n = slots::size(room, room::CHOSEN);
+    let mut i: usize = 0;
+    while i < n {
+        let e = slots::slot_at(room, room::CHOSEN, room::ROWS, i);
+        rows::delete_row(room, active, e.handle);
+        i += 1;
+    }
+}
+
+// Puts every row that was worked out in the place of its old one.
+pub fn update_all(room: &mut [u8], active: [bool; 16], mask: usize)
+    requires { ⌜ Running (now room) active ⌝ }
+    requires { ⌜ mask ≤ 15 ⌝ }
+    requires { ⌜ Taken (liveRows (now room)) 0 (rowsMeant (tableAt (now room) CHOSEN)) ⌝ }
+    requires { ⌜ Rewritten (now room) mask ⌝ }
+    ensures { λ _. ⌜ UpdatesAll (now (room .entry)) (now (room .exit)) active mask ⌝ }
+{
+    let n = slots::size(room, room::WORKED);
+    let mut left = n;
+    while 0 < left {
+        let e = slots::slot_at(room, room::WORKED, room::ROWS, n - left);
+        rows::update_row(room, active, narrow(mask), e);
+        left -= 1;
+    }
+}

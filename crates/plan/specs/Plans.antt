@@ -1,0 +1,45 @@
+-- What is read off a well-formed book once: where its rules stand, which are active, and their total order.
+use mathlib.Core.Path.{_≡_}
+use mathlib.Core.Bool.{Bool, false}
+use mathlib.Core.List.{List}
+use mathlib.Core.Option.{some}
+use Prim.Native.Nat.{ℕ, _≤_, _<_}
+use lib.ListN.{getD, getElem?}
+use Rattle.meaning.specs.Reading.{Read, bad, got}
+use Rattle.meaning.specs.Covers.{Rule}
+use Rattle.meaning.specs.ByteLayouts as ByteLayouts
+use Rattle.meaning.specs.Processing.TotalOrder.{totalOrder}
+use Rattle.words.specs.Words.{readable}
+use Rattle.order.specs.Order.{orderMeant}
+use Rattle.plan.specs.declared.Plan.{Plan}
+use Rattle.plan.specs.declared.Outline.{Outline}
+
+-- the rules of a book of n
+abbrev pub rulesIn : List ℕ → ℕ → List Rule
+rulesIn s n = readable n (ByteLayouts.rule n) s 8
+
+-- an outline of a rule that was read up to a place
+pub record OutlineOf (rule : Rule) (next : ℕ) (o : Outline) : Type 0 where
+  pub active : o .active ≡ rule .active
+  pub precedes : o .precedes ≡ rule .precedes
+  pub ends : o .next ≡ next
+
+-- where a rule was read
+abbrev pub Outlined : Read Rule → Outline → Type 0
+Outlined bad o = Unit {0}
+Outlined (got rule next) o = OutlineOf rule next o
+
+-- rule k stands at a place, and is active or not
+pub record Placed (s : List ℕ) (n k : ℕ) (start : ℕ) (active : Bool) : Type 0 where
+  pub rule : Rule
+  pub next : ℕ
+  pub read : ByteLayouts.rule n s start ≡ got rule next
+  pub listed : getElem? (rulesIn s n) k ≡ some rule
+  pub is : active ≡ rule .active
+
+-- a plan of a book of n rules
+pub record Planned (s : List ℕ) (n : ℕ) (plan : Plan) : Type 0 where
+  pub count : plan .count ≡ n
+  pub placed : (k : ℕ) → k < n → Placed s n k (getD (plan .starts) k 0) (getD (plan .active) k false)
+  pub idle : (k : ℕ) → n ≤ k → getD (plan .active) k false ≡ false
+  pub ordered : orderMeant n (plan .order) ≡ totalOrder (rulesIn s n)

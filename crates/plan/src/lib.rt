@@ -1,0 +1,79 @@
+// What is read off a well-formed book once: where its rules stand, which are active, and their total order.
+ghost use mathlib.Core.Path.{_≡_};
+ghost use Prim.Native.Nat.{_≤_};
+ghost use lib.ListN.{length};
+ghost use Rattle.meaning.specs.Reading.{got, many};
+ghost use Rattle.meaning.specs.ByteLayouts as ByteLayouts;
+ghost use Rattle.plan.specs.Plans.{rulesIn, Outlined, Planned};
+use book::Rule;
+use book::RuleRead;
+use order::Order;
+
+pub struct Plan {
+    pub count: usize,
+    pub starts: [usize; 16],
+    pub active: [bool; 16],
+    pub order: Order,
+}
+
+// Of a rule: whether it is active, the rules that it precedes, and where it ends.
+struct Outline {
+    active: bool,
+    precedes: usize,
+    next: usize,
+}
+
+fn outline_of(rule: Rule, next: usize) -> Outline
+    ensures { λ r. ⌜ r ≡ record { active = rule .head .active; precedes = rule .head .precedes; next = next } ⌝ }
+{
+    let head = rule.head;
+    Outline {
+        active: head.active,
+        precedes: head.precedes,
+        next,
+    }
+}
+
+// The outline of the rule at a place of a book of n rules; where none can be read, nothing is said.
+fn outline_at(s: &[u8], n: usize, at: usize) -> Outline
+    requires { ⌜ n ≤ 16 ⌝ }
+    ensures { λ r. ⌜ Outlined (ByteLayouts.rule n (now (s .entry)) at) r ⌝ }
+{
+    match book::rule_at(s, n, at) {
+        RuleRead::Is { rule, next } => outline_of(rule, next),
+        RuleRead::Bad => Outline {
+            active: false,
+            precedes: 0,
+            next: at,
+        },
+    }
+}
+
+// The plan of a book of n rules that stand one after another.
+pub fn plan_of(s: &[u8], n: usize) -> Plan
+    requires { ⌜ n ≤ 16 ⌝ }
+    requires { ⌜ many n (ByteLayouts.rule n) (now s) 8 ≡ got (rulesIn (now s) n) (length (now s)) ⌝ }
+    ensures { λ r. ⌜ Planned (now (s .entry)) n r ⌝ }
+{
+    let mut starts: [usize; 16] = [0; 16];
+    let mut active: [bool; 16] = [false; 16];
+    let mut masks: [usize; 16] = [0; 16];
+    let mut here = book::FIRST;
+    let mut left = n;
+    while 0 < left {
+        let rule = outline_at(s, n, here);
+        let k = n - left;
+        starts[k] = here;
+        active[k] = rule.active;
+        masks[k] = rule.precedes;
+        here = rule.next;
+        left -= 1;
+    }
+    let order = order::total_order(masks, n);
+    Plan {
+        count: n,
+        starts,
+        active,
+        order,
+    }
+}
