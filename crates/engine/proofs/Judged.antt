@@ -1,5 +1,5 @@
--- What is said of a book, by the answers of its judge and of its plan: a book that is none is malformed, a book without an order has a cycle,
--- and any other is accepted with its rules and their order.
+-- What is said of a book, by the answers of its judge and of its plan: one that its judge refuses is malformed, one without an order has a
+-- cycle, and any other is accepted with its rules and their order.
 use mathlib.Core.Path.{_≡_}
 use mathlib.Core.Bool.{true, false}
 use mathlib.Core.List.{List, []}

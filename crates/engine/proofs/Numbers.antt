@@ -38,7 +38,7 @@ module _ {before rules : List ℕ} {n : ℕ} {after : List ℕ} {i : ℕ} (p : P
         room = p .room;
         same = simp length-set (p .same);
         is =
-            rw (p .is, drop-cons before i 0 here, set-behind (take i rules) (drop (suc i) before) (getD before i 0) (getD rules i 0) i front)
+            rw (p .is, drop-cons before i 0 here, set-behind (take i rules) _ (getD before i 0) (getD rules i 0) i front)
             (rw (add-one i, take-suc rules i 0 there, append-assoc));
       }
 

@@ -26,7 +26,8 @@ returns-2 c =
     let s = now (a .book) in
     let w = told s (judged .judge .ensures .1) (planned .before .before .count .given .1) in
     let plan = planned .plan-of in
-    check-cycle s (now (a .out)) (judged .before .if1 .left) (without-order s _ _ (plan .result) w (plan .ensures) (not-true _ (c .if2 .taken)))
+    let cycle = without-order s _ _ (plan .result) w (plan .ensures) (not-true _ (c .if2 .taken)) in
+    check-cycle s (now (a .out)) (judged .before .if1 .left) cycle
 
 put-numbers-requires : tie.Need-put-numbers-requires
 put-numbers-requires c κs =
@@ -52,9 +53,11 @@ returns-3 c =
 
 returns-4 : tie.Need-returns-4
 returns-4 c =
-    let a = c .before .before .before .before .before .before .args in
+    let judged = c .before .before in
+    let a = judged .before .before .before .before .args in
     let s = now (a .book) in
-    check-malformed s (now (a .out)) (c .before .before .before .if1 .left) (refused-malformed s _ (c .before .before .judge .ensures .0) (c .enum-told .given .1))
+    let malformed = refused-malformed s _ (judged .judge .ensures .0) (c .enum-told .given .1) in
+    check-malformed s (now (a .out)) (judged .before .if1 .left) malformed
 
 pub check-spec : {M : Type 1} → statement M
 check-spec =

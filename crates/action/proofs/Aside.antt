@@ -1,0 +1,131 @@
+-- A change of the chosen rows and of those worked out, and of nothing else, is aside from what the room represents: live rows, next handle,
+-- transition tables and what waits stand elsewhere. So what acts after such a change acts from the room before it.
+use mathlib.Core.Path.{_≡_, ap, _∙_}
+use mathlib.Core.Bool.{Bool}
+use mathlib.Core.List.{List, []}
+use Prim.Native.Nat.{ℕ}
+use native.Mathlib.Omega.{arith}
+use lib.ListN.{length}
+use Rattle.meaning.specs.Covers.{Image, Reason, failed, Query}
+use Rattle.meaning.specs.Processing.{State}
+use Rattle.meaning.specs.Processing.Actions.{Result, ends}
+use Rattle.meaning.specs.EntryPoints.{failureNumber}
+use Rattle.words.specs.Words.{Bytes}
+use Rattle.slots.specs.Slots.{tableAt, tableBytes, Frame}
+use Rattle.slots.proofs.Frames.{frame-wider, frame-trans, word-kept-below}
+use Rattle.slots.proofs.Tables.{table-kept-below, table-kept-above, stands-kept-below, stands-kept-above}
+use Rattle.room.specs.Room.{NEXT, LIVE, INSERTED, DELETED, NEW, OLD, CHOSEN, WAITS, END, ROWS, ENTRIES, waitAt, Laid, Kept}
+use Rattle.room.specs.Room.{rowsMeant, waitMeant, liveRows, transitionIn, waitsIn}
+use Rattle.room.specs.Represents.{Represents, Running}
+use Rattle.query.specs.Chosen.{Chose}
+use Rattle.query.proofs.Kept.{laid-kept}
+use Rattle.working.specs.Working.{Works}
+use Rattle.changes.specs.declared.Step.{Step}
+use Rattle.changes.specs.declared.Step.the-variants.{Failed}
+use Rattle.changes.specs.Steps.{Acts}
+use Rattle.changes.specs.Steps as Steps
+
+pub record Aside (xs ys : List ℕ) : Type 0 where
+  pub frame : Frame CHOSEN WAITS xs ys
+  pub laid : Laid ys
+
+-- ---- The changes that are aside
+
+pub aside-chosen : {xs ys : List ℕ} {q : Query} → Laid xs → Chose xs ys q → Aside xs ys
+unfolding tableBytes
+aside-chosen l c = record { frame = frame-wider (c .frame) (omega arith) (omega arith); laid = laid-kept l (c .frame) (c .stands) }
+
+pub aside-worked : {xs ys : List ℕ} → Laid xs → Works xs ys → Aside xs ys
+unfolding tableBytes
+aside-worked {xs} {ys} l w =
+    let f = w .frame in
+    record {
+      frame = frame-wider f (omega arith) (omega arith);
+      laid =
+          record {
+            long = rw (f .len) (l .long);
+            live = stands-kept-below f LIVE ROWS (l .live) (omega arith);
+            inserted = stands-kept-below f INSERTED ROWS (l .inserted) (omega arith);
+            deleted = stands-kept-below f DELETED ROWS (l .deleted) (omega arith);
+            new = stands-kept-below f NEW ROWS (l .new) (omega arith);
+            old = stands-kept-below f OLD ROWS (l .old) (omega arith);
+            chosen = stands-kept-below f CHOSEN ROWS (l .chosen) (omega arith);
+            worked = w .stands;
+            waits = λ k h. stands-kept-above f (waitAt k) ENTRIES (l .waits k h) (omega arith);
+          };
+    }
+
+pub chosen-stays : {xs ys : List ℕ} → Laid xs → Works xs ys → tableAt ys CHOSEN ≡ tableAt xs CHOSEN
+unfolding tableBytes
+chosen-stays l w = table-kept-below (w .frame) CHOSEN ROWS (l .chosen) (omega arith)
+
+pub aside-more : {xs ys zs : List ℕ} → Aside xs ys → Aside ys zs → Aside xs zs
+aside-more a b = record { frame = frame-trans (a .frame) (b .frame); laid = b .laid }
+
+-- ---- What stays
+
+module _ {xs ys : List ℕ} (l : Laid xs) (a : Aside xs ys) where
+  pub live-aside : liveRows ys ≡ liveRows xs
+  unfolding liveRows tableBytes
+  live-aside = ap rowsMeant (table-kept-below (a .frame) LIVE ROWS (l .live) (omega arith))
+
+  pub transition-aside : transitionIn ys ≡ transitionIn xs
+  unfolding transitionIn tableBytes
+  transition-aside =
+      rw (
+        table-kept-below (a .frame) INSERTED ROWS (l .inserted) (omega arith),
+        table-kept-below (a .frame) DELETED ROWS (l .deleted) (omega arith),
+        table-kept-below (a .frame) NEW ROWS (l .new) (omega arith),
+        table-kept-below (a .frame) OLD ROWS (l .old) (omega arith),
+      )
+
+  beyond-aside : Kept END (length xs) xs ys
+  beyond-aside = record { len = a .frame .len; same = λ i b h. a .frame .above i (omega arith) }
+
+  pub represents-aside : {active : List Bool} {s : State} → Bytes ys → Represents xs active s → Represents ys active s
+  unfolding waitsIn
+  represents-aside bytes p =
+      record {
+        laid = a .laid;
+        bytes = bytes;
+        next = word-kept-below (a .frame) NEXT (omega arith) ∙ p .next;
+        rows = live-aside ∙ p .rows;
+        waiting = λ k h t.
+            ap waitMeant (table-kept-above (a .frame) (waitAt k) ENTRIES (l .waits k h) (omega arith)) ∙ p .waiting k h t;
+      }
+
+pub running-aside : {xs ys : List ℕ} {active : List Bool} → Aside xs ys → Bytes ys → Running xs active → Running ys active
+running-aside a bytes run =
+    record {
+      start = run .start;
+      state = run .state;
+      reached = run .reached;
+      represents = represents-aside (run .represents .laid) a bytes (run .represents);
+    }
+
+-- ---- What acts after it
+
+module _ {xs ys : List ℕ} {active : List Bool} (l : Laid xs) (a : Aside xs ys) where
+  pub acts-after : {zs : List ℕ} {f g : Image → Result} {r : Step} → Bytes ys
+      → ((s : State) → Represents xs active s → g (s .image) ≡ f (s .image)) → Acts ys zs active f r → Acts xs zs active g r
+  acts-after {zs} {f} {g} {r} bytes same act =
+      let len : length ys ≡ length xs = a .frame .len in
+      let kept : Kept END (length xs) ys zs = rw len at (act .beyond) in
+      let first = beyond-aside l a in
+      record {
+        laid = act .laid;
+        shown = act .shown ∙ transition-aside l a;
+        beyond = record { len = kept .len ∙ len; same = λ i b h. kept .same i b h ∙ first .same i b h };
+        follows = λ start s q p. rw (same s p) (act .follows start s q (represents-aside l a bytes p));
+      }
+
+  pub fails-after : {g : Image → Result} (reason : Reason)
+      → ((s : State) → Represents xs active s → g (s .image) ≡ ends (failed reason) [])
+      → Acts xs ys active g (Failed (failureNumber reason))
+  fails-after reason same =
+      record {
+        laid = a .laid;
+        shown = transition-aside l a;
+        beyond = beyond-aside l a;
+        follows = λ start s q p. rw (same s p) Steps.fails;
+      }

@@ -1,0 +1,5 @@
+pub mod Aside
+pub mod Fitting
+pub mod One
+pub mod Prepared
+pub mod Whole
