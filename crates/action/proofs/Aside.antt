@@ -17,6 +17,7 @@ use Rattle.slots.proofs.Tables.{table-kept-below, table-kept-above, stands-kept
 use Rattle.room.specs.Room.{NEXT, LIVE, INSERTED, DELETED, NEW, OLD, CHOSEN, WAITS, END, ROWS, ENTRIES, waitAt, Laid, Kept}
 use Rattle.room.specs.Room.{rowsMeant, waitMeant, liveRows, transitionIn, waitsIn}
 use Rattle.room.specs.Represents.{Represents, Running}
+use Rattle.room.proofs.Steps.{madeAll-none}
 use Rattle.query.specs.Chosen.{Chose}
 use Rattle.query.proofs.Kept.{laid-kept}
 use Rattle.working.specs.Working.{Works}
@@ -119,13 +120,13 @@ module _ {xs ys : List ℕ} {active : List Bool} (l : Laid xs) (a : Aside xs ys)
         follows = λ start s q p. rw (same s p) (act .follows start s q (represents-aside l a bytes p));
       }
 
-  pub fails-after : {g : Image → Result} (reason : Reason)
+  pub fails-after : {g : Image → Result} → Bytes ys → (reason : Reason)
       → ((s : State) → Represents xs active s → g (s .image) ≡ ends (failed reason) [])
       → Acts xs ys active g (Failed (failureNumber reason))
-  fails-after reason same =
+  fails-after bytes reason same =
       record {
         laid = a .laid;
         shown = transition-aside l a;
         beyond = beyond-aside l a;
-        follows = λ start s q p. rw (same s p) Steps.fails;
+        follows = λ start s q p. rw (same s p) (Steps.fails {os = []} (rw (madeAll-none s) (represents-aside l a bytes p)));
       }

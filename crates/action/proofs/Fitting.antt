@@ -9,6 +9,7 @@ use lib.ListN.{length}
 use Rattle.meaning.specs.Covers.{insert, update, insertRow, insertFromQuery, deleteRows, updateRows, rolledBack, Query, Term, Expression}
 use Rattle.meaning.specs.Processing.Actions.{ends}
 use Rattle.room.specs.Represents.{Running}
+use Rattle.room.proofs.Steps.{madeAll-none}
 use Rattle.changes.specs.declared.Step.the-variants.{RolledBack}
 use Rattle.changes.specs.Steps.{Acts, rollsBack}
 use Rattle.changes.proofs.Keeping.{kept-refl}
@@ -35,4 +36,10 @@ pub updateRows-fits : {t mask : ℕ} {es : List Expression} {ts : List Term} →
 updateRows-fits (updateRowsFits a b c) = (a, b, c)
 
 pub rolled-back : {xs : List ℕ} {active : List Bool} → Running xs active → Acts xs xs active (λ m. ends rolledBack []) RolledBack
-rolled-back run = record { laid = run .represents .laid; shown = refl; beyond = kept-refl; follows = λ start s r p. rollsBack }
+rolled-back run =
+    record {
+      laid = run .represents .laid;
+      shown = refl;
+      beyond = kept-refl;
+      follows = λ start s r p. rollsBack {os = []} (rw (madeAll-none s) p);
+    }

@@ -87,14 +87,18 @@ module _ {xs : List ℕ} {active : List Bool} (run : Running xs active) (h : ℕ
       go : (f : Found) → findIn h (tableAt xs LIVE) ≡ f → Deleted xs ys active f NoSuchRow
           → Acts xs ys active (operate (delete h)) (Failed 1)
       go (At i) e t = absurd t
-      go Nothing e t = rw t (fails-after (run .represents .laid) nothing-aside noSuchRow (λ s p. rw (← p .rows, is-missing e)))
+      go Nothing e t =
+          let now = run .represents in
+          rw t (fails-after (now .laid) nothing-aside (now .bytes) noSuchRow (λ s p. rw (← p .rows, is-missing e)))
 
   -- ---- Update
 
   pub missing-update : (mask : ℕ) (vs : List ℤ) → findIn h (tableAt xs LIVE) ≡ Nothing
       → Acts xs xs active (operate (update h mask vs)) (Failed 1)
   unfolding operate fails failureNumber
-  missing-update mask vs e = fails-after (run .represents .laid) nothing-aside noSuchRow (λ s p. rw (← p .rows, is-missing e))
+  missing-update mask vs e =
+      let now = run .represents in
+      fails-after (now .laid) nothing-aside (now .bytes) noSuchRow (λ s p. rw (← p .rows, is-missing e))
 
   module _ {mask k i : ℕ} (vs : List ℤ) {new : Slot} (small : mask ≤ 15) (narrowed : mask ≤ 255 → k ≡ mask)
       (found : findIn h (tableAt xs LIVE) ≡ At i)

@@ -163,9 +163,10 @@ acts-insert table l w bytes act =
 -- ---- An insert from a query
 
 module _ {xs zs : List ℕ} {active : List Bool} {q : Query} {es : List Expression} (table : ℕ) (l : Laid xs) where
-  pub query-fails : Prepared xs zs q es 15 false → Acts xs zs active (perform (transitionIn xs) (insertFromQuery table q es)) (Failed 4)
+  pub query-fails : Prepared xs zs q es 15 false → Bytes zs
+      → Acts xs zs active (perform (transitionIn xs) (insertFromQuery table q es)) (Failed 4)
   unfolding perform fails failureNumber
-  query-fails p = fails-after l (p .aside) sumOutOfRange (λ s r. rw (← r .rows, ← p .rows, unready p))
+  query-fails p bytes = fails-after l (p .aside) bytes sumOutOfRange (λ s r. rw (← r .rows, ← p .rows, unready p))
 
   pub query-inserts : {ws : List ℕ} {r : Step} → length es ≡ 4 → Prepared xs zs q es 15 true → Bytes zs
       → Acts zs ws active (insertAll table (valuesIn zs)) r → Acts xs ws active (perform (transitionIn xs) (insertFromQuery table q es)) r
@@ -190,10 +191,10 @@ update-ready p =
     record { values = y .values; each = ready-each y; rows = y .rows }
 
 module _ {xs zs : List ℕ} {active : List Bool} {mask : ℕ} {es : List Expression} (table : ℕ) (ts : List Term) (l : Laid xs) where
-  pub update-fails : Prepared xs zs (rowsOf table ts) es mask false
+  pub update-fails : Prepared xs zs (rowsOf table ts) es mask false → Bytes zs
       → Acts xs zs active (perform (transitionIn xs) (updateRows table mask es ts)) (Failed 4)
   unfolding perform fails failureNumber
-  update-fails p = fails-after l (p .aside) sumOutOfRange (λ s r. rw (← r .rows, ← p .rows, unready p))
+  update-fails p bytes = fails-after l (p .aside) bytes sumOutOfRange (λ s r. rw (← r .rows, ← p .rows, unready p))
 
   pub query-updates : {ws : List ℕ} → Prepared xs zs (rowsOf table ts) es mask true → Bytes zs → UpdatesAll zs ws active mask
       → Acts xs ws active (perform (transitionIn xs) (updateRows table mask es ts)) Went

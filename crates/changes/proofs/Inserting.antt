@@ -26,7 +26,7 @@ use Rattle.room.specs.Room.{NEXT, LIVE, WORKED, ROWS, rowMeant}
 use Rattle.room.specs.Joins.{asEffect, Joinable}
 use Rattle.room.specs.Represents.{Represents, Running}
 use Rattle.room.proofs.Fitting.{proper-slot, live-length, fits-insert}
-use Rattle.room.proofs.Steps.{says-insert, joinable, turned-insert}
+use Rattle.room.proofs.Steps.{madeAll-none, says-insert, joinable, turned-insert}
 use Rattle.rows.specs.declared.Space.{Space}
 use Rattle.rows.specs.declared.Space.the-variants.{Enough, Full, UsedUp}
 use Rattle.rows.specs.Rows.{spaceFor, rowOf, insertedSlot, Inserted}
@@ -241,7 +241,7 @@ module _ {xs : List ℕ} {active : List Bool} (table n : ℕ) (run : Running xs 
         laid = run .represents .laid;
         shown = refl;
         beyond = kept-refl;
-        follows = λ start s r p. rw (insertAll-space table n sized p, e) (fails {r = full});
+        follows = λ start s r p. rw (insertAll-space table n sized p, e) (fails {r = full} {os = []} (rw (madeAll-none s) p));
       }
 
   pub used-up-acts : spaceFor (length (tableAt xs LIVE)) (word32At xs NEXT) n ≡ UsedUp
@@ -252,5 +252,5 @@ module _ {xs : List ℕ} {active : List Bool} (table n : ℕ) (run : Running xs 
         laid = run .represents .laid;
         shown = refl;
         beyond = kept-refl;
-        follows = λ start s r p. rw (insertAll-space table n sized p, e) (fails {r = handlesUsedUp});
+        follows = λ start s r p. rw (insertAll-space table n sized p, e) (fails {r = handlesUsedUp} {os = []} (rw (madeAll-none s) p));
       }

@@ -17,11 +17,13 @@ use Rattle.room.specs.Represents.{Represents, Reached, madeAll}
 use Rattle.changes.specs.declared.Step.{Step}
 use Rattle.changes.specs.declared.Step.the-variants.{Went, RolledBack, Failed}
 
--- the room after a result: it went on, and the room represents the state with the operations made; or the run ends
+-- the room after a result: it went on, or the run ends; either way the room represents the state with the operations made (none where it
+-- failed)
 pub data Follows (ys : List ℕ) (active : List Bool) (s : State) : Result → Step → Type 0 where
   goesOn : {os : List RowOperation} → Represents ys active (madeAll os s) → Follows ys active s (went os) Went
-  rollsBack : {os : List RowOperation} → Follows ys active s (ends rolledBack os) RolledBack
-  fails : {r : Reason} {os : List RowOperation} → Follows ys active s (ends (failed r) os) (Failed (failureNumber r))
+  rollsBack : {os : List RowOperation} → Represents ys active (madeAll os s) → Follows ys active s (ends rolledBack os) RolledBack
+  fails : {r : Reason} {os : List RowOperation} → Represents ys active (madeAll os s)
+      → Follows ys active s (ends (failed r) os) (Failed (failureNumber r))
 
 -- the step that the specification says, for every state that the room represents; transition tables stay, and so does what stands past
 -- the tables

@@ -21,12 +21,14 @@ work-out-all-requires c κs =
 returns : tie.Need-returns
 unfolding expressionsAt ones
 returns c =
-    let worked = c .before .before .before in
+    let known = c .before in
+    let worked = known .before .before in
     let asked = worked .before .before .before .before in
     let start = asked .before .before .before .before in
     let l = start .pre .0 .represents .laid in
     query-fails (start .args .table) l
     (prepared l (asked .choose .ensures) (rw (not-true (worked .work-out-all .result) (c .if1 .taken)) at (worked .work-out-all .ensures)))
+    (λ k. known .slice-known3 .given k .fits)
 
 insert-all-requires : tie.Need-insert-all-requires
 insert-all-requires c κs =

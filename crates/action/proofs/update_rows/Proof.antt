@@ -21,7 +21,8 @@ work-out-all-requires c κs =
 returns : tie.Need-returns
 unfolding expressionsAt
 returns c =
-    let worked = c .before .before .before in
+    let known = c .before in
+    let worked = known .before .before in
     let asked = worked .before .before .before .before in
     let start = asked .before .before .before .before in
     let l = start .pre .0 .represents .laid in
@@ -29,6 +30,7 @@ returns c =
     let made = table-chosen (now (a .book)) (a .triggers) (a .table) (a .terms) (start .pre .1 .0) (asked .choose .ensures) in
     update-fails (a .table) (termsMeant (now (a .book)) (a .triggers) (a .terms)) l
     (prepared l made (rw (not-true (worked .work-out-all .result) (c .if1 .taken)) at (worked .work-out-all .ensures)))
+    (λ k. known .slice-known3 .given k .fits)
 
 update-all-requires : tie.Need-update-all-requires
 update-all-requires c κs =
