@@ -6,10 +6,9 @@ use mathlib.Core.List.{List, []}
 use Prim.Native.Nat.{ℕ}
 use native.Mathlib.Omega.{arith}
 use lib.ListN.{length}
-use Rattle.meaning.specs.Covers.{Image, Reason, failed, Query}
+use Rattle.meaning.specs.Covers.{Image, failed, Query}
 use Rattle.meaning.specs.Processing.{State}
 use Rattle.meaning.specs.Processing.Actions.{Result, ends}
-use Rattle.meaning.specs.EntryPoints.{failureNumber}
 use Rattle.words.specs.Words.{Bytes}
 use Rattle.slots.specs.Slots.{tableAt, tableBytes, Frame}
 use Rattle.slots.proofs.Frames.{frame-wider, frame-trans, word-kept-below}
@@ -22,8 +21,9 @@ use Rattle.query.specs.Chosen.{Chose}
 use Rattle.query.proofs.Kept.{laid-kept}
 use Rattle.working.specs.Working.{Works}
 use Rattle.changes.specs.declared.Step.{Step}
+use Rattle.changes.specs.declared.Reason.{Reason}
 use Rattle.changes.specs.declared.Step.the-variants.{Failed}
-use Rattle.changes.specs.Steps.{Acts}
+use Rattle.changes.specs.Steps.{Acts, reasonMeant}
 use Rattle.changes.specs.Steps as Steps
 
 pub record Aside (xs ys : List ℕ) : Type 0 where
@@ -121,8 +121,8 @@ module _ {xs ys : List ℕ} {active : List Bool} (l : Laid xs) (a : Aside xs ys)
       }
 
   pub fails-after : {g : Image → Result} → Bytes ys → (reason : Reason)
-      → ((s : State) → Represents xs active s → g (s .image) ≡ ends (failed reason) [])
-      → Acts xs ys active g (Failed (failureNumber reason))
+      → ((s : State) → Represents xs active s → g (s .image) ≡ ends (failed (reasonMeant reason)) [])
+      → Acts xs ys active g (Failed reason)
   fails-after bytes reason same =
       record {
         laid = a .laid;

@@ -8,11 +8,10 @@ use Prim.Native.Nat.{ℕ, _≤_, _<_}
 use native.Mathlib.Omega.{arith}
 use lib.IntN.{ℤ}
 use lib.ListN.{length, getD}
-use Rattle.meaning.specs.Covers.{delete, update, noSuchRow}
+use Rattle.meaning.specs.Covers.{delete, update}
 use Rattle.meaning.specs.RowOperations.{deletes, updates, rowAt}
 use Rattle.meaning.specs.Processing.Actions.{operate, fails, deleteAll, updatedRow, updatesOf, updateAll}
 use Rattle.meaning.specs.Trace.{OnlyIn}
-use Rattle.meaning.specs.EntryPoints.{failureNumber}
 use Rattle.meaning.proofs.Lookups.{found-so}
 use Rattle.meaning.proofs.Made.{Proper}
 use Rattle.meaning.proofs.Images.{rising-proper}
@@ -33,6 +32,7 @@ use Rattle.room.proofs.Steps.{says-delete, says-update, joinable, turned-delete
 use Rattle.rows.specs.declared.Looked.{Looked}
 use Rattle.rows.specs.declared.Looked.the-variants.{Made, NoSuchRow}
 use Rattle.rows.specs.Rows.{operationAt, CanJoin, Deleted, Updated}
+use Rattle.changes.specs.declared.Reason.the-variants as reason
 use Rattle.changes.specs.declared.Step.the-variants.{Went, Failed}
 use Rattle.changes.specs.Steps.{Acts}
 use Rattle.changes.proofs.Moving.{moves-one, moves-acts}
@@ -80,25 +80,25 @@ module _ {xs : List ℕ} {active : List Bool} (run : Running xs active) (h : ℕ
       go Nothing e t = absurd t
 
   pub missing-one : {ys : List ℕ} → Deleted xs ys active (findIn h (tableAt xs LIVE)) NoSuchRow
-      → Acts xs ys active (operate (delete h)) (Failed 1)
-  unfolding operate fails failureNumber
+      → Acts xs ys active (operate (delete h)) (Failed reason.NoSuchRow)
+  unfolding operate fails
   missing-one {ys} d = go (findIn h (tableAt xs LIVE)) refl d
     where
       go : (f : Found) → findIn h (tableAt xs LIVE) ≡ f → Deleted xs ys active f NoSuchRow
-          → Acts xs ys active (operate (delete h)) (Failed 1)
+          → Acts xs ys active (operate (delete h)) (Failed reason.NoSuchRow)
       go (At i) e t = absurd t
       go Nothing e t =
           let now = run .represents in
-          rw t (fails-after (now .laid) nothing-aside (now .bytes) noSuchRow (λ s p. rw (← p .rows, is-missing e)))
+          rw t (fails-after (now .laid) nothing-aside (now .bytes) reason.NoSuchRow (λ s p. rw (← p .rows, is-missing e)))
 
   -- ---- Update
 
   pub missing-update : (mask : ℕ) (vs : List ℤ) → findIn h (tableAt xs LIVE) ≡ Nothing
-      → Acts xs xs active (operate (update h mask vs)) (Failed 1)
-  unfolding operate fails failureNumber
+      → Acts xs xs active (operate (update h mask vs)) (Failed reason.NoSuchRow)
+  unfolding operate fails
   missing-update mask vs e =
       let now = run .represents in
-      fails-after (now .laid) nothing-aside (now .bytes) noSuchRow (λ s p. rw (← p .rows, is-missing e))
+      fails-after (now .laid) nothing-aside (now .bytes) reason.NoSuchRow (λ s p. rw (← p .rows, is-missing e))
 
   module _ {mask k i : ℕ} (vs : List ℤ) {new : Slot} (small : mask ≤ 15) (narrowed : mask ≤ 255 → k ≡ mask)
       (found : findIn h (tableAt xs LIVE) ≡ At i)

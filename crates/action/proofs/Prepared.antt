@@ -10,10 +10,9 @@ use lib.IntN.{ℤ}
 use lib.ListN.{length, length-map}
 use borrow.Author.Tests.{lt-ltb}
 use Rattle.meaning.specs.Base.{maybe, eachOr}
-use Rattle.meaning.specs.Covers.{Row, Query, Term, Expression, insertFromQuery, deleteRows, updateRows, sumOutOfRange}
+use Rattle.meaning.specs.Covers.{Row, Query, Term, Expression, insertFromQuery, deleteRows, updateRows}
 use Rattle.meaning.specs.Processing.Queries.{chosen, workOut, workOutAll}
 use Rattle.meaning.specs.Processing.Actions.{perform, rowsOf, insertAll, deleteAll, updatedRow, masked, fails}
-use Rattle.meaning.specs.EntryPoints.{failureNumber}
 use Rattle.meaning.proofs.Lists.{clash, same-some, Each, noElement, anElement}
 use Rattle.meaning.proofs.ActionsFit.{Taken, each-result, chosen-taken}
 use Rattle.words.specs.Words.{Bytes}
@@ -28,6 +27,7 @@ use Rattle.room.proofs.Live.{reached-sound}
 use Rattle.query.specs.Chosen.{Chose}
 use Rattle.working.specs.Working.{allWorked, WorkedOut, WorkedValues}
 use Rattle.changes.specs.declared.Step.{Step}
+use Rattle.changes.specs.declared.Reason.the-variants as reason
 use Rattle.changes.specs.declared.Step.the-variants.{Went, Failed}
 use Rattle.changes.specs.Steps.{Acts, valuesIn, Rewritten, UpdatesAll}
 use Rattle.action.proofs.Aside.{Aside, aside-chosen, aside-worked, aside-more, chosen-stays, live-aside}
@@ -164,9 +164,9 @@ acts-insert table l w bytes act =
 
 module _ {xs zs : List ℕ} {active : List Bool} {q : Query} {es : List Expression} (table : ℕ) (l : Laid xs) where
   pub query-fails : Prepared xs zs q es 15 false → Bytes zs
-      → Acts xs zs active (perform (transitionIn xs) (insertFromQuery table q es)) (Failed 4)
-  unfolding perform fails failureNumber
-  query-fails p bytes = fails-after l (p .aside) bytes sumOutOfRange (λ s r. rw (← r .rows, ← p .rows, unready p))
+      → Acts xs zs active (perform (transitionIn xs) (insertFromQuery table q es)) (Failed reason.SumOutOfRange)
+  unfolding perform fails
+  query-fails p bytes = fails-after l (p .aside) bytes reason.SumOutOfRange (λ s r. rw (← r .rows, ← p .rows, unready p))
 
   pub query-inserts : {ws : List ℕ} {r : Step} → length es ≡ 4 → Prepared xs zs q es 15 true → Bytes zs
       → Acts zs ws active (insertAll table (valuesIn zs)) r → Acts xs ws active (perform (transitionIn xs) (insertFromQuery table q es)) r
@@ -192,9 +192,9 @@ update-ready p =
 
 module _ {xs zs : List ℕ} {active : List Bool} {mask : ℕ} {es : List Expression} (table : ℕ) (ts : List Term) (l : Laid xs) where
   pub update-fails : Prepared xs zs (rowsOf table ts) es mask false → Bytes zs
-      → Acts xs zs active (perform (transitionIn xs) (updateRows table mask es ts)) (Failed 4)
-  unfolding perform fails failureNumber
-  update-fails p bytes = fails-after l (p .aside) bytes sumOutOfRange (λ s r. rw (← r .rows, ← p .rows, unready p))
+      → Acts xs zs active (perform (transitionIn xs) (updateRows table mask es ts)) (Failed reason.SumOutOfRange)
+  unfolding perform fails
+  update-fails p bytes = fails-after l (p .aside) bytes reason.SumOutOfRange (λ s r. rw (← r .rows, ← p .rows, unready p))
 
   pub query-updates : {ws : List ℕ} → Prepared xs zs (rowsOf table ts) es mask true → Bytes zs → UpdatesAll zs ws active mask
       → Acts xs ws active (perform (transitionIn xs) (updateRows table mask es ts)) Went

@@ -16,15 +16,13 @@ ghost use Rattle.room.specs.Represents.{Running};
 ghost use Rattle.changes.specs.Steps.{Acts};
 ghost use Rattle.action.specs.Fit.{FitOperation, FitAction};
 use book::Action;
+use changes::Reason;
 use changes::Step;
 use log::Operation;
 use rows::Looked;
 use slots::Found;
 use terms::Query;
 use terms::Terms;
-
-// The reason of a sum that leaves 32 bits.
-const SUM_OUT_OF_RANGE: usize = 4;
 
 // Inserts one row of values that stand in the log or the book.
 fn insert_values(room: &mut [u8], active: [bool; 16], s: &[u8], table: usize, values: usize) -> Step
@@ -44,7 +42,7 @@ fn delete_one(room: &mut [u8], active: [bool; 16], handle: u32) -> Step
 {
     let deleted = rows::delete_row(room, active, handle);
     let Looked::Made = deleted else {
-        return Step::Failed(1);
+        return Step::Failed(Reason::NoSuchRow);
     };
     Step::Went
 }
@@ -65,7 +63,7 @@ fn update_one(
 {
     let found = slots::find(room, room::LIVE, room::ROWS, handle);
     let Found::At(i) = found else {
-        return Step::Failed(1);
+        return Step::Failed(Reason::NoSuchRow);
     };
     let old = slots::slot_at(room, room::LIVE, room::ROWS, i);
     let new = working::with_values(log, values, mask, old);
@@ -107,7 +105,7 @@ fn insert_from_query(
 {
     query::choose(room, book, triggers, query);
     if !working::work_out_all(room, book, expressions, 15) {
-        return Step::Failed(SUM_OUT_OF_RANGE);
+        return Step::Failed(Reason::SumOutOfRange);
     }
     changes::insert_all(room, active, table)
 }
@@ -157,7 +155,7 @@ fn update_rows(
     };
     query::choose(room, book, triggers, q);
     if !working::work_out_all(room, book, expressions, mask) {
-        return Step::Failed(SUM_OUT_OF_RANGE);
+        return Step::Failed(Reason::SumOutOfRange);
     }
     changes::update_all(room, active, mask);
     Step::Went

@@ -15,7 +15,6 @@ use Rattle.meaning.specs.RowOperations.{RowOperation, inserts, deletes}
 use Rattle.meaning.specs.Processing.{State}
 use Rattle.meaning.specs.Processing.Actions.{Result, went, newRows, insertAll}
 use Rattle.meaning.specs.Processing.Actions as Actions
-use Rattle.meaning.specs.EntryPoints.{failureNumber}
 use Rattle.meaning.proofs.Made.{Proper}
 use Rattle.words.specs.Words.{Bytes, word32At}
 use Rattle.words.proofs.Laws.{word32-lt}
@@ -30,6 +29,7 @@ use Rattle.room.proofs.Steps.{madeAll-none, says-insert, joinable, turned-inser
 use Rattle.rows.specs.declared.Space.{Space}
 use Rattle.rows.specs.declared.Space.the-variants.{Enough, Full, UsedUp}
 use Rattle.rows.specs.Rows.{spaceFor, rowOf, insertedSlot, Inserted}
+use Rattle.changes.specs.declared.Reason.the-variants as reason
 use Rattle.changes.specs.declared.Step.the-variants.{Went, Failed}
 use Rattle.changes.specs.Steps.{fails, Acts, valuesIn}
 use Rattle.changes.proofs.Keeping.{kept-refl, table-kept}
@@ -234,23 +234,23 @@ module _ {xs zs : List ℕ} {active : List Bool} {table n left : ℕ} (run : Run
 
 module _ {xs : List ℕ} {active : List Bool} (table n : ℕ) (run : Running xs active) (sized : n ≡ word32At xs WORKED) where
   pub full-acts : spaceFor (length (tableAt xs LIVE)) (word32At xs NEXT) n ≡ Full
-      → Acts xs xs active (insertAll table (valuesIn xs)) (Failed 2)
-  unfolding resultOf Actions.fails failureNumber
+      → Acts xs xs active (insertAll table (valuesIn xs)) (Failed reason.Full)
+  unfolding resultOf Actions.fails
   full-acts e =
       record {
         laid = run .represents .laid;
         shown = refl;
         beyond = kept-refl;
-        follows = λ start s r p. rw (insertAll-space table n sized p, e) (fails {r = full} {os = []} (rw (madeAll-none s) p));
+        follows = λ start s r p. rw (insertAll-space table n sized p, e) (fails {r = reason.Full} {os = []} (rw (madeAll-none s) p));
       }
 
   pub used-up-acts : spaceFor (length (tableAt xs LIVE)) (word32At xs NEXT) n ≡ UsedUp
-      → Acts xs xs active (insertAll table (valuesIn xs)) (Failed 3)
-  unfolding resultOf Actions.fails failureNumber
+      → Acts xs xs active (insertAll table (valuesIn xs)) (Failed reason.HandlesUsedUp)
+  unfolding resultOf Actions.fails
   used-up-acts e =
       record {
         laid = run .represents .laid;
         shown = refl;
         beyond = kept-refl;
-        follows = λ start s r p. rw (insertAll-space table n sized p, e) (fails {r = handlesUsedUp} {os = []} (rw (madeAll-none s) p));
+        follows = λ start s r p. rw (insertAll-space table n sized p, e) (fails {r = reason.HandlesUsedUp} {os = []} (rw (madeAll-none s) p));
       }

@@ -4,18 +4,26 @@ use mathlib.Core.Bool.{Bool}
 use mathlib.Core.List.{List, map}
 use Prim.Native.Nat.{ℕ}
 use lib.ListN.{length}
-use Rattle.meaning.specs.Covers.{Image, Reason, rolledBack, failed}
+use Rattle.meaning.specs.Covers as Covers
+use Rattle.meaning.specs.Covers.{Image, rolledBack, failed}
 use Rattle.meaning.specs.RowOperations.{RowOperation}
 use Rattle.meaning.specs.Processing.{State}
 use Rattle.meaning.specs.Processing.Actions.{Result, went, ends}
-use Rattle.meaning.specs.EntryPoints.{failureNumber}
 use lib.IntN.{ℤ}
 use Rattle.meaning.specs.Processing.Actions.{updateAll}
 use Rattle.slots.specs.Slots.{tableAt}
 use Rattle.room.specs.Room.{WORKED, CHOSEN, END, Laid, Kept, rowMeant, rowsMeant, rowsWith, transitionIn}
 use Rattle.room.specs.Represents.{Represents, Reached, madeAll}
+use Rattle.changes.specs.declared.Reason.{Reason}
+use Rattle.changes.specs.declared.Reason.the-variants as reason
 use Rattle.changes.specs.declared.Step.{Step}
 use Rattle.changes.specs.declared.Step.the-variants.{Went, RolledBack, Failed}
+
+abbrev pub reasonMeant : Reason → Covers.Reason
+reasonMeant reason.NoSuchRow = Covers.Reason.noSuchRow
+reasonMeant reason.Full = Covers.Reason.full
+reasonMeant reason.HandlesUsedUp = Covers.Reason.handlesUsedUp
+reasonMeant reason.SumOutOfRange = Covers.Reason.sumOutOfRange
 
 -- the room after a result: it went on, or the run ends; either way the room represents the state with the operations made (none where it
 -- failed)
@@ -23,7 +31,7 @@ pub data Follows (ys : List ℕ) (active : List Bool) (s : State) : Result → S
   goesOn : {os : List RowOperation} → Represents ys active (madeAll os s) → Follows ys active s (went os) Went
   rollsBack : {os : List RowOperation} → Represents ys active (madeAll os s) → Follows ys active s (ends rolledBack os) RolledBack
   fails : {r : Reason} {os : List RowOperation} → Represents ys active (madeAll os s)
-      → Follows ys active s (ends (failed r) os) (Failed (failureNumber r))
+      → Follows ys active s (ends (failed (reasonMeant r)) os) (Failed r)
 
 -- the step that the specification says, for every state that the room represents; transition tables stay, and so does what stands past
 -- the tables

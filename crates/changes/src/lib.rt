@@ -9,11 +9,19 @@ ghost use Rattle.room.specs.Represents.{Running};
 ghost use Rattle.changes.specs.Steps.{Acts, valuesIn, Rewritten, UpdatesAll};
 use rows::Space;
 
-// It went on, or ends the run: rolled back, or failed for a reason 1..4.
+// Why an operation fails, in the order of document 01's numbers.
+pub enum Reason {
+    NoSuchRow,
+    Full,
+    HandlesUsedUp,
+    SumOutOfRange,
+}
+
+// It went on, or ends the run: rolled back, or failed for a reason.
 pub enum Step {
     Went,
     RolledBack,
-    Failed(usize),
+    Failed(Reason),
 }
 
 // The low byte of a number.
@@ -32,10 +40,10 @@ pub fn insert_all(room: &mut [u8], active: [bool; 16], table: usize) -> Step
     let n = slots::size(room, room::WORKED);
     match rows::space_for(room, n) {
         Space::Full => {
-            return Step::Failed(2);
+            return Step::Failed(Reason::Full);
         }
         Space::UsedUp => {
-            return Step::Failed(3);
+            return Step::Failed(Reason::HandlesUsedUp);
         }
         Space::Enough => {}
     }
