@@ -6,6 +6,7 @@ use mathlib.Core.List.{List, [], _++_}
 use mathlib.Core.Option.{Option, none, some}
 use Prim.Native.Nat.{ℕ, _^_, _≤_}
 use native.Mathlib.Omega.{arith}
+use borrow.Author.Tests.{leb-true}
 use lib.Dec.{eqb, ltb, leb}
 use lib.Count.{ones}
 use lib.ListN.{length}
@@ -21,7 +22,7 @@ use Rattle.meaning.specs.Processing.TotalOrder.{totalOrder}
 use Rattle.meaning.specs.EntryPoints.{refusedBook, acceptedBook, judgeBook, bookMalformed, precedesCycle}
 use Rattle.meaning.specs.Trace.{operationsIn, sinceLast}
 use Rattle.meaning.specs.Theorems.{Accepted, endingOf}
-use Rattle.meaning.proofs.Lists.{Each}
+use Rattle.meaning.proofs.Lists.{Each, and-true}
 use Rattle.meaning.proofs.Made.{InRange, Sound, Made}
 use Rattle.meaning.proofs.Lookups.{made-front, made-back}
 use Rattle.meaning.proofs.Images.{makeAll-sound}
@@ -38,7 +39,7 @@ use Rattle.meaning.proofs.StepsFit.{GoodRule, Replays, runs-replay}
 pub record Gives {A : Type 0} (p : Parser A) (P : A → Type 0) : Type 0 where
   pub fit : {s : List ℕ} {at : ℕ} {a : A} {next : ℕ} → p s at ≡ got a next → P a
 
-readAll-gives : {A : Type 0} {P : A → Type 0} {p : Parser A} (s : List ℕ) (a : A) → Gives p P → readAll p s ≡ some a → P a
+pub readAll-gives : {A : Type 0} {P : A → Type 0} {p : Parser A} (s : List ℕ) (a : A) → Gives p P → readAll p s ≡ some a → P a
 readAll-gives {p = p} s a g e = g .fit (read-all p s e .1)
 
 reads-give : {A : Type 0} {P : A → Type 0} {p : Parser A} {bytesOf : A → List ℕ} → Reads p bytesOf P → Gives p P
@@ -106,7 +107,7 @@ change-gives =
     past-gives number32 (λ h. past-gives ByteLayouts.mask (λ m. bind-gives (values-give (ones m)) (λ vs q.
     pure-gives (goodUpdate (q .1)))))
 
-operation-gives : Gives ByteLayouts.operation GoodOperation
+pub operation-gives : Gives ByteLayouts.operation GoodOperation
 unfolding ByteLayouts.operation ByteLayouts.operationOf
 operation-gives =
     past-gives byte (λ n.
@@ -156,7 +157,7 @@ module _ (triggers : ℕ) where
       bind-gives (many-gives (ones m) expression-gives) (λ es c.
       past-gives (ByteLayouts.terms triggers) (λ ts. pure-gives (goodUpdateRows (c .1))))))
 
-  action-gives : Gives (ByteLayouts.action triggers) GoodAction
+  pub action-gives : Gives (ByteLayouts.action triggers) GoodAction
   unfolding ByteLayouts.action ByteLayouts.actionOf
   action-gives =
       past-gives byte (λ n.
@@ -167,7 +168,7 @@ module _ (triggers : ℕ) where
   unfolding ByteLayouts.actions
   actions-gives = past-gives (byteWithin 1 mostActions) (λ n. gives-to (λ xs c. c .1) (many-gives n action-gives))
 
-rule-gives : (n : ℕ) → Gives (ByteLayouts.rule n) GoodRule
+pub rule-gives : (n : ℕ) → Gives (ByteLayouts.rule n) GoodRule
 unfolding ByteLayouts.rule
 rule-gives n =
     past-gives (byteWithin 0 1) (λ a. past-gives ByteLayouts.table (λ t. past-gives (byteWithin 1 7) (λ g.
@@ -175,13 +176,14 @@ rule-gives n =
     past-gives (ByteLayouts.condition g) (λ q. bind-gives (actions-gives g) (λ acts good.
     pure-gives (record { actionsGood = good })))))))))
 
-book-gives : Gives ByteLayouts.book (λ b. Each GoodRule (b .rules))
+book-gives : Gives ByteLayouts.book (λ b. (b .limit ≤ mostSteps) × Each GoodRule (b .rules))
 unfolding ByteLayouts.book
 book-gives =
-    framed-gives (past-gives number16 (λ l. must-gives (within 1 mostSteps l) (λ some.
-    past-gives (byteWithin 0 mostRules) (λ n. bind-gives (many-gives n (rule-gives n)) (λ rs c. pure-gives (c .1))))))
+    framed-gives (past-gives number16 (λ l. must-gives (within 1 mostSteps l) (λ few.
+    past-gives (byteWithin 0 mostRules) (λ n. bind-gives (many-gives n (rule-gives n)) (λ rs c.
+    pure-gives (leb-true l mostSteps (and-true (leb 1 l) (leb l mostSteps) few .1), c .1))))))
 
-pub book-good : (s : List ℕ) (b : Book) → readAll ByteLayouts.book s ≡ some b → Each GoodRule (b .rules)
+pub book-good : (s : List ℕ) (b : Book) → readAll ByteLayouts.book s ≡ some b → (b .limit ≤ mostSteps) × Each GoodRule (b .rules)
 book-good s b e = readAll-gives s b book-gives e
 
 -- an accepted book was read
@@ -211,7 +213,10 @@ module _ {image book log : List ℕ} (a : Accepted image book log) where
   run-sound = image-sound image (a .start) (a .imageRead)
 
   pub run-rules : Each GoodRule (a .ruleBook .rules)
-  run-rules = book-good book (a .ruleBook) (judged-read book (a .ruleBook) (a .order) (a .bookJudged) .0)
+  run-rules = book-good book (a .ruleBook) (judged-read book (a .ruleBook) (a .order) (a .bookJudged) .0) .1
+
+  pub run-limit : a .ruleBook .limit ≤ mostSteps
+  run-limit = book-good book (a .ruleBook) (judged-read book (a .ruleBook) (a .order) (a .bookJudged) .0) .0
 
   pub run-order : totalOrder (a .ruleBook .rules) ≡ some (a .order)
   run-order = judged-read book (a .ruleBook) (a .order) (a .bookJudged) .1

@@ -1,0 +1,3 @@
+mod Emptying
+mod Rows
+pub mod Started

@@ -1,0 +1,4 @@
+pub mod Parsed
+pub mod Ranged
+pub mod Composed
+pub mod Loops
