@@ -1,2 +1,5 @@
 pub mod Judged
 pub mod Numbers
+pub mod Ordered
+pub mod Running
+pub mod Counted

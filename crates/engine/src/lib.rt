@@ -5,8 +5,12 @@ ghost use Prim.Native.Nat.{_≤_};
 ghost use lib.ListN.{length, take};
 ghost use Rattle.meaning.specs.Base.{inFrontOf};
 ghost use Rattle.meaning.specs.EntryPoints.{ruleBytes};
-ghost use Rattle.engine.specs.Answers.{Checks};
+ghost use Rattle.engine.specs.Answers.{Checks, Runs};
 use book::BookRead;
+use image::ImageRead;
+use log::LogRead;
+use processing::Outcome;
+use transaction::Accepted;
 
 // The refusals, in the order in which they are tried.
 pub enum Refusal {
@@ -24,6 +28,12 @@ pub enum Checked {
     Rules(usize),
 }
 
+// What a run answers: a refusal, or the outcome and the number of considerations.
+pub enum Answer {
+    Refused(Refusal),
+    Ran { outcome: Outcome, count: usize },
+}
+
 // A book check is lent an output of at least 16 bytes.
 pub const CHECK: usize = 16;
 
@@ -37,6 +47,50 @@ fn put_numbers(out: &mut [u8], rules: [u8; 16], n: usize)
     while i < n {
         out[i] = rules[i];
         i += 1;
+    }
+}
+
+// A run. A refusal and nothing changed; or the outcome and the number of considerations, the image at the
+// front of the output, later bytes untouched, and the first 65,536 bytes of working room zero.
+pub fn run(image: &[u8], book: &[u8], log: &[u8], out: &mut [u8], room: &mut [u8]) -> Answer
+    ensures { λ r. ⌜ Runs (now (image .entry)) (now (book .entry)) (now (log .entry)) (now (out .entry)) (now (out .exit)) (now (room .entry)) (now (room .exit)) r ⌝ }
+{
+    if out.len() < transaction::OUTPUT {
+        return Answer::Refused(Refusal::Output);
+    }
+    if room.len() < transaction::ROOM {
+        return Answer::Refused(Refusal::Room);
+    }
+    match image::judge(image) {
+        ImageRead::Is { next, count: rows } => match book::judge(book) {
+            BookRead::Is { limit, count } => {
+                let plan = plan::plan_of(book, count);
+                let order = plan.order;
+                if !order.found {
+                    return Answer::Refused(Refusal::Cycle);
+                }
+                match log::judge(log) {
+                    LogRead::Is { count: operations } => {
+                        let a = Accepted {
+                            next,
+                            rows,
+                            plan,
+                            limit,
+                            operations,
+                        };
+                        let e = transaction::transact(image, book, log, a, out, room);
+                        let outcome = e.outcome;
+                        Answer::Ran {
+                            outcome,
+                            count: e.count,
+                        }
+                    }
+                    LogRead::Bad => Answer::Refused(Refusal::Log),
+                }
+            }
+            BookRead::Bad => Answer::Refused(Refusal::Book),
+        },
+        ImageRead::Bad => Answer::Refused(Refusal::Image),
     }
 }
 

@@ -1,0 +1,6 @@
+mod Parsed
+mod OneStep
+mod Turns
+mod Going
+mod Logged
+mod Counting
