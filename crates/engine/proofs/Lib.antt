@@ -3,3 +3,4 @@ pub mod Numbers
 pub mod Ordered
 pub mod Running
 pub mod Counted
+pub mod Sizes

@@ -1,0 +1,4 @@
+-- Where the parts of an input end
+mod Parts
+-- What is told of a run, and printed
+mod Told
