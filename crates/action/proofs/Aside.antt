@@ -12,10 +12,10 @@ use Rattle.meaning.specs.Processing.Actions.{Result, ends}
 use Rattle.words.specs.Words.{Bytes}
 use Rattle.slots.specs.Slots.{tableAt, tableBytes, Frame}
 use Rattle.slots.proofs.Frames.{frame-wider, frame-trans, word-kept-below}
-use Rattle.slots.proofs.Tables.{table-kept-below, table-kept-above, stands-kept-below, stands-kept-above}
-use Rattle.room.specs.Room.{NEXT, LIVE, INSERTED, DELETED, NEW, OLD, CHOSEN, WAITS, END, ROWS, ENTRIES, waitAt, Laid, Kept}
-use Rattle.room.specs.Room.{rowsMeant, waitMeant, liveRows, transitionIn, waitsIn}
+use Rattle.slots.proofs.Tables.{table-kept-below, table-kept-above, stands-kept-below}
+use Rattle.room.specs.Room.{NEXT, CHOSEN, WAITS, END, ROWS, ENTRIES, waitAt, Laid, Kept, waitMeant, liveRows, transitionIn, waitsIn}
 use Rattle.room.specs.Represents.{Represents, Running}
+use Rattle.room.proofs.Kept.{kept-trans, kept-below, live-kept, transition-kept, laid-aside}
 use Rattle.room.proofs.Steps.{madeAll-none}
 use Rattle.query.specs.Chosen.{Chose}
 use Rattle.query.proofs.Kept.{laid-kept}
@@ -43,17 +43,8 @@ aside-worked {xs} {ys} l w =
     record {
       frame = frame-wider f (omega arith) (omega arith);
       laid =
-          record {
-            long = rw (f .len) (l .long);
-            live = stands-kept-below f LIVE ROWS (l .live) (omega arith);
-            inserted = stands-kept-below f INSERTED ROWS (l .inserted) (omega arith);
-            deleted = stands-kept-below f DELETED ROWS (l .deleted) (omega arith);
-            new = stands-kept-below f NEW ROWS (l .new) (omega arith);
-            old = stands-kept-below f OLD ROWS (l .old) (omega arith);
-            chosen = stands-kept-below f CHOSEN ROWS (l .chosen) (omega arith);
-            worked = w .stands;
-            waits = λ k h. stands-kept-above f (waitAt k) ENTRIES (l .waits k h) (omega arith);
-          };
+          laid-aside l (frame-wider f (omega arith) (omega arith)) (stands-kept-below f CHOSEN ROWS (l .chosen) (omega arith))
+          (w .stands);
     }
 
 pub chosen-stays : {xs ys : List ℕ} → Laid xs → Works xs ys → tableAt ys CHOSEN ≡ tableAt xs CHOSEN
@@ -67,18 +58,10 @@ aside-more a b = record { frame = frame-trans (a .frame) (b .frame); laid = b .l
 
 module _ {xs ys : List ℕ} (l : Laid xs) (a : Aside xs ys) where
   pub live-aside : liveRows ys ≡ liveRows xs
-  unfolding liveRows tableBytes
-  live-aside = ap rowsMeant (table-kept-below (a .frame) LIVE ROWS (l .live) (omega arith))
+  live-aside = live-kept (kept-below (a .frame)) l (omega arith) (omega arith)
 
   pub transition-aside : transitionIn ys ≡ transitionIn xs
-  unfolding transitionIn tableBytes
-  transition-aside =
-      rw (
-        table-kept-below (a .frame) INSERTED ROWS (l .inserted) (omega arith),
-        table-kept-below (a .frame) DELETED ROWS (l .deleted) (omega arith),
-        table-kept-below (a .frame) NEW ROWS (l .new) (omega arith),
-        table-kept-below (a .frame) OLD ROWS (l .old) (omega arith),
-      )
+  transition-aside = transition-kept (kept-below (a .frame)) l (omega arith) (omega arith)
 
   beyond-aside : Kept END (length xs) xs ys
   beyond-aside = record { len = a .frame .len; same = λ i b h. a .frame .above i (omega arith) }
@@ -112,11 +95,10 @@ module _ {xs ys : List ℕ} {active : List Bool} (l : Laid xs) (a : Aside xs ys)
   acts-after {zs} {f} {g} {r} bytes same act =
       let len : length ys ≡ length xs = a .frame .len in
       let kept : Kept END (length xs) ys zs = rw len at (act .beyond) in
-      let first = beyond-aside l a in
       record {
         laid = act .laid;
         shown = act .shown ∙ transition-aside l a;
-        beyond = record { len = kept .len ∙ len; same = λ i b h. kept .same i b h ∙ first .same i b h };
+        beyond = kept-trans (beyond-aside l a) kept;
         follows = λ start s q p. rw (same s p) (act .follows start s q (represents-aside l a bytes p));
       }
 

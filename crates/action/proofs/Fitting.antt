@@ -9,10 +9,10 @@ use lib.ListN.{length}
 use Rattle.meaning.specs.Covers.{insert, update, insertRow, insertFromQuery, deleteRows, updateRows, rolledBack, Query, Term, Expression}
 use Rattle.meaning.specs.Processing.Actions.{ends}
 use Rattle.room.specs.Represents.{Running}
+use Rattle.room.proofs.Kept.{kept-refl}
 use Rattle.room.proofs.Steps.{madeAll-none}
 use Rattle.changes.specs.declared.Step.the-variants.{RolledBack}
 use Rattle.changes.specs.Steps.{Acts, rollsBack}
-use Rattle.changes.proofs.Keeping.{kept-refl}
 use Rattle.action.specs.Fit.{FitOperation, insertFits, updateFits, FitAction, insertRowFits, insertFromQueryFits, deleteRowsFits}
 use Rattle.action.specs.Fit.{updateRowsFits}
 

@@ -14,7 +14,8 @@ use Rattle.meaning.specs.Reading.{Read, bad, got, Parser, onFrom, byteAt, byteW
 use Rattle.meaning.specs.Covers as Covers
 use Rattle.meaning.specs.ByteLayouts as ByteLayouts
 use Rattle.meaning.specs.ByteLayouts.{value, table, column, mask, columns, pair, expressionOf, expression, rule}
-use Rattle.words.proofs.Laws.{split, inside, byte-within-yes, byte-within-low, byte-within-high}
+use Rattle.meaning.proofs.Parsing.{inside}
+use Rattle.words.proofs.Laws.{split, byte-within-yes, byte-within-low, byte-within-high}
 use Rattle.book.specs.Books.{ruleOr}
 use Rattle.book.specs.declared.Rule.{Rule}
 use Rattle.book.specs.declared.RuleRead.{RuleRead}

@@ -24,6 +24,7 @@ use Rattle.slots.proofs.Tables.{table-length, table-fits}
 use Rattle.room.specs.Room.{NEXT, LIVE, WORKED, ROWS, rowMeant}
 use Rattle.room.specs.Joins.{asEffect, Joinable}
 use Rattle.room.specs.Represents.{Represents, Running}
+use Rattle.room.proofs.Kept.{kept-refl, table-kept}
 use Rattle.room.proofs.Fitting.{proper-slot, live-length, fits-insert}
 use Rattle.room.proofs.Steps.{madeAll-none, says-insert, joinable, turned-insert}
 use Rattle.rows.specs.declared.Space.{Space}
@@ -32,7 +33,6 @@ use Rattle.rows.specs.Rows.{spaceFor, rowOf, insertedSlot, Inserted}
 use Rattle.changes.specs.declared.Reason.the-variants as reason
 use Rattle.changes.specs.declared.Step.the-variants.{Went, Failed}
 use Rattle.changes.specs.Steps.{fails, Acts, valuesIn}
-use Rattle.changes.proofs.Keeping.{kept-refl, table-kept}
 use Rattle.changes.proofs.Moving.{Moves, moves-none, moves-one, moves-next, moves-running, moves-acts, turn}
 
 -- ---- The operations

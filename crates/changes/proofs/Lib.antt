@@ -1,4 +1,3 @@
-pub mod Keeping
 pub mod Moving
 pub mod Inserting
 pub mod Taking

@@ -17,10 +17,10 @@ use Rattle.slots.specs.declared.Slot.{Slot}
 use Rattle.room.specs.Room.{INSERTED, WAITS, END, Kept}
 use Rattle.room.specs.Turned.{Turned}
 use Rattle.room.specs.Represents.{Represents, Reached, Running, madeOne, madeAll}
+use Rattle.room.proofs.Kept.{kept-refl, kept-trans, transition-kept}
 use Rattle.room.proofs.Steps.{madeAll-none, madeAll-one, madeAll-append, reached-all}
 use Rattle.changes.specs.declared.Step.the-variants.{Went}
 use Rattle.changes.specs.Steps.{goesOn, Acts}
-use Rattle.changes.proofs.Keeping.{kept-refl, kept-trans, transition-kept}
 
 -- operations fit the image of a state, and a room represents the state after them
 pub record Leads (ys : List ℕ) (active : List Bool) (os : List RowOperation) (s : State) : Type 0 where
@@ -88,7 +88,7 @@ pub moves-acts : {xs ys : List ℕ} {active : List Bool} (os : List RowOperation
 moves-acts os run m is =
     record {
       laid = moves-running run m .represents .laid;
-      shown = transition-kept (run .represents .laid) (m .between);
+      shown = transition-kept (m .between) (run .represents .laid) (omega arith) (omega arith);
       beyond = m .beyond;
       follows = λ start s r p. rw (is s p) (goesOn (m .leads start s r p .represents));
     }

@@ -18,7 +18,7 @@ use Rattle.meaning.specs.Processing.Actions.{went, deleteAll, updatedRow, updat
 use Rattle.meaning.specs.Trace.{OnlyIn}
 use Rattle.meaning.proofs.Made.{Proper, more, Made as MadeFrom}
 use Rattle.meaning.proofs.Lookups.{rowAt-other}
-use Rattle.meaning.proofs.ActionsFit.{Taken, noneTaken, oneTaken, updatedRow-only}
+use Rattle.meaning.proofs.ActionsFit.{Taken, oneTaken, taken-in, updatedRow-only}
 use Rattle.words.specs.Words.{Bytes, word32At}
 use Rattle.slots.specs.declared.Slot.{Slot}
 use Rattle.slots.specs.Slots.{tableAt, tableBytes, blank, findIn, removeAt}
@@ -26,7 +26,8 @@ use Rattle.slots.proofs.Tables.{table-length, table-fits}
 use Rattle.room.specs.Room.{NEXT, LIVE, CHOSEN, WORKED, ROWS, rowMeant, rowsMeant, rowsWith, liveRows}
 use Rattle.room.specs.Turned.{Turned}
 use Rattle.room.specs.Represents.{Running, madeAll}
-use Rattle.room.proofs.Live.{Place, row-found}
+use Rattle.room.proofs.Kept.{table-kept}
+use Rattle.room.proofs.Live.{Place, rows-length, row-found}
 use Rattle.room.proofs.Fitting.{proper-slot, fits-delete, fits-update}
 use Rattle.room.proofs.Steps.{says-delete, says-update, joinable, turned-delete, turned-update}
 use Rattle.rows.specs.declared.Looked.{Looked}
@@ -35,17 +36,9 @@ use Rattle.rows.specs.Rows.{operationAt, CanJoin, Deleted, Updated}
 use Rattle.slots.specs.declared.Found.the-variants.{At}
 use Rattle.changes.specs.declared.Step.the-variants.{Went}
 use Rattle.changes.specs.Steps.{Acts, Rewritten, UpdatesAll}
-use Rattle.changes.proofs.Keeping.{table-kept}
 use Rattle.changes.proofs.Moving.{Leads, Moves, moves-none, moves-one, moves-next, moves-running, moves-acts, turn}
 
 -- ---- Rows that are taken
-
--- taken too from other rows, in which a lookup of a handle above `low` finds the same
-taken-in : {rows rows′ rs : List Row} {low : ℕ} → ((h : ℕ) → low < h → rowAt h rows′ ≡ rowAt h rows) → Taken rows low rs
-    → Taken rows′ low rs
-taken-in f noneTaken = noneTaken
-taken-in f (oneTaken {low = low} {r = r} a p q c) =
-    oneTaken {r = r} a p (f (r .handle) a ∙ q) (taken-in (λ h l. f h (let k : low < h = omega arith in k)) c)
 
 -- the first of them is live
 record First (rows : List Row) (r : Row) (rs : List Row) : Type 0 where
@@ -151,10 +144,6 @@ unfolding rowsMeant
 rows-at i [] = refl
 rows-at zero (e ∷ l) = refl
 rows-at (suc i) (e ∷ l) = rows-at i l
-
-rows-length : (l : List Slot) → length (rowsMeant l) ≡ length l
-unfolding rowsMeant
-rows-length l = length-map l rowMeant
 
 module _ {xs zs : List ℕ} {active : List Bool} {os : List RowOperation} {i : ℕ} (run : Running xs active)
     (inv : Taking xs zs active os i) where

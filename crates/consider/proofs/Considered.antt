@@ -8,7 +8,6 @@ use Prim.Native.Nat.{ℕ, _≤_, _<_}
 use native.Mathlib.Omega.{arith}
 use lib.ListN.{length, getD, getElem?}
 use Rattle.meaning.specs.Base.{if_then_else_}
-use Rattle.meaning.specs.Reading.{bad, got}
 use Rattle.meaning.specs.ByteLayouts as ByteLayouts
 use Rattle.meaning.specs.Processing.{State, waits, conditionHolds, runActions, considerWith, considerRule, consider}
 use Rattle.meaning.specs.Processing.TransitionTables.{transition}
@@ -19,37 +18,20 @@ use Rattle.book.specs.declared.RuleRead.{RuleRead}
 use Rattle.book.specs.declared.RuleRead.the-variants as ruleRead
 use Rattle.book.specs.Books.{conditionMeant, actionsMeant, ruleOf, ruleMeant, ruleOr}
 use Rattle.plan.specs.declared.Plan.{Plan}
-use Rattle.plan.specs.Plans.{rulesIn, Placed, Planned}
+use Rattle.plan.specs.Plans.{rulesIn, Planned}
+use Rattle.plan.proofs.Listed.{read-listed}
 use Rattle.room.specs.declared.Watch.{Watch}
 use Rattle.room.specs.Room.{END, Kept, watchRule, liveRows, transitionIn, waitsIn}
 use Rattle.room.specs.Drawn.{drawnFor, Drew}
 use Rattle.room.specs.Represents.{Represents}
+use Rattle.room.proofs.Kept.{kept-trans}
 use Rattle.room.proofs.Marks.{seen, reached-seen, drew}
 use Rattle.room.proofs.Steps.{madeAll-none}
 use Rattle.transition.proofs.Afterwards.{transition-watch}
 use Rattle.changes.specs.declared.Step.{Step}
 use Rattle.changes.specs.declared.Step.the-variants.{Went}
 use Rattle.changes.specs.Steps.{goesOn, Acts}
-use Rattle.changes.proofs.Keeping.{kept-trans}
 use Rattle.consider.specs.Considers.{Considers}
-
--- ---- The rule that is read is the rule that is listed
-
-module _ {s : List ℕ} {n k start : ℕ} {active : Bool} (here : Placed s n k start active) {read : RuleRead}
-    (e : ruleOr s read ≡ ByteLayouts.rule n s start) where
-  read-listed : {rule : RuleStood} {after : ℕ} → read ≡ ruleRead.Is rule after → ruleMeant s rule ≡ here .rule
-  unfolding ruleOr
-  read-listed {rule} {after} is =
-      let both : got (ruleMeant s rule) after ≡ got (here .rule) (here .next) = ap (ruleOr s) (sym is) ∙ e ∙ here .read in
-      cc
-
-  -- a rule of the plan can be read
-  pub can-read : read ≡ ruleRead.Bad → ⊥
-  unfolding ruleOr
-  can-read is =
-      let none : bad ≡ got (here .rule) (here .next) = ap (ruleOr s) (sym is) ∙ e ∙ here .read in
-      let z : _≡_ {A = ℕ} 0 1 = cc in
-      omega arith
 
 -- ---- Its transition tables are drawn
 

@@ -10,18 +10,14 @@ use Rattle.meaning.specs.Covers.{Rule, Image}
 use Rattle.meaning.specs.RowOperations.{netEffect}
 use Rattle.meaning.specs.Processing.{State, since, waits}
 use Rattle.words.specs.Words.{Bytes}
+use Rattle.words.proofs.Laws.{all-same}
 use Rattle.room.specs.Drawn.{Drew}
 use Rattle.room.specs.Represents.{Represents, Reached, Running}
 use Rattle.room.proofs.Marks.{seen, reached-seen, drew}
 
 -- marks at 0 that follow count for no more than missing ones
-none-follow : (n j : ℕ) → _≡_ {A = ℕ} (getD (replicate n 0) j 0) 0
-none-follow zero j = refl
-none-follow (suc n) zero = refl
-none-follow (suc n) (suc j) = none-follow n j
-
 zeros-follow : (l : List ℕ) (n j : ℕ) → getD (l ++ replicate n 0) j 0 ≡ getD l j 0
-zeros-follow [] n j = none-follow n j
+zeros-follow [] n j = all-same {A = ℕ} n j 0
 zeros-follow (a ∷ l) n zero = refl
 zeros-follow (a ∷ l) n (suc j) = zeros-follow l n j
 

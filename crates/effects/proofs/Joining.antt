@@ -9,17 +9,34 @@ use borrow.Author.Tests.{eq-eqb, ne-eqb, ltb-true, ltb-false, eqb-true, eqb-fals
 use lib.Bits.{bitOr}
 use lib.Dec.{eqb, ltb}
 use lib.ListN.{length, getD, take, drop, set, length-set}
-use lib.Seq.{drop-cons, set-split}
+use lib.Seq.{drop-cons, set-split, set-getD}
 use Rattle.meaning.specs.Base.{if_then_else_}
-use Rattle.meaning.specs.RowOperations.{joinKind}
+use Rattle.meaning.specs.RowOperations.{joinKind, joinTable}
 use Rattle.words.specs.Words.{word32At}
 use Rattle.words.proofs.Laws.{split}
 use Rattle.slots.specs.declared.Slot.{Slot}
 use Rattle.slots.specs.declared.Found.the-variants.{At, Nothing}
-use Rattle.slots.specs.Slots.{tableAt, insertAt, removeAt, placeIn, hit, findIn, blank, Holds, Sorted}
+use Rattle.slots.specs.Slots.{tableAt, insertAt, removeAt, placeIn, hit, findIn, blank, Stands, Holds, Sorted}
+use Rattle.slots.proofs.Frames.{frame-refl}
 use Rattle.slots.proofs.Tables.{table-length}
-use Rattle.slots.proofs.Order.{find-nothing, insert-length, remove-length, sorted-insert, sorted-remove, sorted-set}
+use Rattle.slots.proofs.Order.{place-is, find-nothing, insert-length, remove-length, sorted-insert, sorted-remove, sorted-set}
 use Rattle.room.specs.Joins.{asEffect, joinedSlot, joinSlot, keptSlot, joinSlots, Takes}
+
+-- ---- Of slots alone: what an update leaves as it was
+
+-- an inserted row
+pub inserted-stays : (a b : Slot) → a .kind ≡ 1 → b .kind ≡ 3 → (0 < a .kind) × (joinSlot a b ≡ a)
+unfolding joinSlot joinedSlot joinKind joinTable
+inserted-stays a b p q =
+    let joined : joinKind (a .kind) (b .kind) ≡ 1 = rw (p, q) in
+    (omega arith, ap (λ (k : ℕ). joinedSlot k a b) joined)
+
+-- a row updated in its columns
+pub updated-stays : (a b : Slot) → a .kind ≡ 3 → b .kind ≡ 3 → bitOr (a .mask) (b .mask) ≡ a .mask → (0 < a .kind) × (joinSlot a b ≡ a)
+unfolding joinSlot joinedSlot joinKind joinTable asEffect
+updated-stays a b p q m =
+    let joined : joinKind (a .kind) (b .kind) ≡ 3 = rw (p, q) in
+    (omega arith, ap (λ (k : ℕ). joinedSlot k a b) joined ∙ rw m (ap (λ (k : ℕ). asEffect k (a .mask) a) (sym p)))
 
 -- ---- Of lists alone
 
@@ -55,6 +72,13 @@ hit-true h i l q = by (ltb i (length l)) refl q
         → (i < length l) × (eqb (getD l i blank .handle) h ≡ true)
     by true t r = (ltb-true i (length l) t, r)
     by false t r = absurd (let z : _≡_ {A = ℕ} 0 1 = cc in omega arith)
+
+-- and by rising handle it is the place
+pub hit-place : (h i : ℕ) (l : List Slot) → Sorted l → hit h i l ≡ true → i ≡ placeIn h l
+hit-place h i l s q =
+    let b : i < length l = hit-true h i l q .0 in
+    let e : getD l i blank .handle ≡ h = eqb-true _ _ (hit-true h i l q .1) in
+    sym (place-is h l i (omega arith) (λ k p. omega (arith, s .rises k i p b)) (λ p. omega arith))
 
 module _ (op : Slot) (l : List Slot) (i : ℕ) (at : i ≡ placeIn (op .handle) l) where
   join-hit : hit (op .handle) i l ≡ true → joinSlots op l ≡ take i l ++ keptSlot (joinSlot (getD l i blank) op) (drop (suc i) l)
@@ -174,3 +198,11 @@ module _ (xs : List ℕ) (base i : ℕ) (op : Slot) (at : i ≡ placeIn (op .han
     pub joined-put : {ys : List ℕ} → (joinSlot e op .kind ≡ 0 → ⊥) → Holds base 128 xs ys (set (tableAt xs base) i (joinSlot e op))
         → Holds base 128 xs ys (joinSlots op (tableAt xs base))
     joined-put k p = rw (join-sets op (tableAt xs base) i at q (rw (← read) k), ← read) p
+
+    -- a slot that stays as it was is as good as stored
+    pub joined-same : Stands base 128 xs → (0 < e .kind) × (joinSlot e op ≡ e) → Holds base 128 xs xs (joinSlots op (tableAt xs base))
+    joined-same s p =
+        let l : List Slot = tableAt xs base in
+        let kept : set l i (joinSlot e op) ≡ l = rw (p .1, read) (set-getD l i blank) in
+        joined-put (λ k. omega (arith, ap (λ (x : Slot). x .kind) (p .1)))
+        (record { frame = frame-refl; stands = s; list = sym kept })

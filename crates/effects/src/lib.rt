@@ -19,16 +19,10 @@ use slots::Slot;
 // 1 inserted, 2 deleted, 3 updated; 4 marks a join that no run can reach.
 const JOIN: [u8; 16] = [0, 1, 2, 3, 1, 4, 0, 1, 2, 4, 4, 4, 3, 4, 2, 3];
 
-fn wide(x: u8) -> usize
-    ensures { λ r. ⌜ (r ≡ x) × (r < 256) ⌝ }
-{
-    x as usize
-}
-
 fn join_kind(a: u8, b: u8) -> u8
     ensures { λ r. ⌜ r ≡ joinKind a b ⌝ }
 {
-    let j = wide(a) * 4 + wide(b);
+    let j = words::wide(a) * 4 + words::wide(b);
     if j < 16 {
         return JOIN[j];
     }
@@ -75,6 +69,19 @@ fn join_slot(a: Slot, b: Slot) -> Slot
     a
 }
 
+// Whether an update leaves what was before as it was: the row is inserted, or updated in its columns.
+fn stays(a: Slot, b: Slot) -> bool
+    ensures { λ r. ⌜ (r ≡ true → (0 < a .kind) × (joinSlot a b ≡ a)) ⌝ }
+{
+    if b.kind == 3 {
+        if a.kind == 3 {
+            return united(a.mask, b.mask) == a.mask;
+        }
+        return a.kind == 1;
+    }
+    false
+}
+
 // The effect at a place of a table joins a later one on the same handle.
 fn join_at(room: &mut [u8], base: usize, i: usize, op: Slot)
     requires { ⌜ Stands base 128 (now room) ⌝ }
@@ -83,6 +90,9 @@ fn join_at(room: &mut [u8], base: usize, i: usize, op: Slot)
     ensures { λ _. ⌜ Holds base 128 (now (room .entry)) (now (room .exit)) (joinSlots op (tableAt (now (room .entry)) base)) ⌝ }
 {
     let e = slots::slot_at(room, base, room::ENTRIES, i);
+    if stays(e, op) {
+        return;
+    }
     let x = join_slot(e, op);
     if x.kind == 0 {
         slots::remove_at(room, base, room::ENTRIES, i);
@@ -91,18 +101,31 @@ fn join_at(room: &mut [u8], base: usize, i: usize, op: Slot)
     slots::put_at(room, base, room::ENTRIES, i, x);
 }
 
-// An operation joins one table of what waits.
-fn join_table(room: &mut [u8], base: usize, op: Slot)
+// The place of a handle in a table; nothing is searched where it is the near one.
+fn place_near(room: &[u8], base: usize, near: usize, handle: u32) -> usize
+    requires { ⌜ Stands base 128 (now room) ⌝ }
+    requires { ⌜ Sorted (tableAt (now room) base) ⌝ }
+    ensures { λ r. ⌜ r ≡ placeIn handle (tableAt (now (room .entry)) base) ⌝ }
+{
+    if slots::is_at(room, base, room::ENTRIES, near, handle) {
+        return near;
+    }
+    slots::place(room, base, room::ENTRIES, handle)
+}
+
+// An operation joins one table of what waits. The answer is its place, the first to try in the next table.
+fn join_table(room: &mut [u8], base: usize, near: usize, op: Slot) -> usize
     requires { ⌜ Stands base 128 (now room) ⌝ }
     requires { ⌜ Takes op (tableAt (now room) base) ⌝ }
     ensures { λ _. ⌜ Holds base 128 (now (room .entry)) (now (room .exit)) (joinSlots op (tableAt (now (room .entry)) base)) ⌝ }
 {
-    let i = slots::place(room, base, room::ENTRIES, op.handle);
+    let i = place_near(room, base, near, op.handle);
     if slots::is_at(room, base, room::ENTRIES, i, op.handle) {
         join_at(room, base, i, op);
-        return;
+        return i;
     }
     slots::insert_at(room, base, room::ENTRIES, i, op);
+    i
 }
 
 // An operation joins what waits for every active rule. Inactive rules cost nothing.
@@ -111,9 +134,10 @@ pub fn join_all(room: &mut [u8], active: [bool; 16], op: Slot)
     ensures { λ _. ⌜ AllJoined (now (room .entry)) (now (room .exit)) active op ⌝ }
 {
     let mut k: usize = 0;
+    let mut near: usize = 0;
     while k < room::RULES {
         if active[k] {
-            join_table(room, room::WAITS + room::WAIT * k, op);
+            near = join_table(room, room::WAITS + room::WAIT * k, near, op);
         }
         k += 1;
     }
@@ -124,7 +148,7 @@ pub fn join_all(room: &mut [u8], active: [bool; 16], op: Slot)
 fn wakes(rule: Watch, e: Slot) -> bool
     ensures { λ r. ⌜ r ≡ TransitionTables.wakes (watchRule rule) (effectMeant e) ⌝ }
 {
-    if wide(e.table) != rule.table {
+    if words::wide(e.table) != rule.table {
         return false;
     }
     let kind = e.kind;
@@ -133,7 +157,7 @@ fn wakes(rule: Watch, e: Slot) -> bool
         2 => words::has_bit(rule.triggers, 1),
         3 => {
             if words::has_bit(rule.triggers, 2) {
-                return words::meet(wide(e.mask), rule.columns);
+                return words::meet(words::wide(e.mask), rule.columns);
             }
             false
         }

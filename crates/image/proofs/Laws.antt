@@ -1,26 +1,27 @@
 -- Laws of images, for the functions that read and write them. A row is 21 bytes: its parser gives the words that stand in the slice, and is
 -- bad where the bytes end before it. Bytes written one after another at the front of a list are the joined bytes at its front.
-use mathlib.Core.Path.{_≡_, refl, _∙_}
+use mathlib.Core.Path.{_≡_, refl, sym, ap, _∙_}
 use mathlib.Core.Bool.{Bool, true, false, _&&_}
-use mathlib.Core.List.{List, [], _∷_, _++_}
+use mathlib.Core.List.{List, [], _∷_, _++_, append-assoc, append-nil}
 use Prim.Native.Nat.{ℕ, _+_, _-_, _≤_, _<_}
 use native.Mathlib.Omega.{arith}
 use borrow.Author.Tests.{le-leb, lt-leb, leb-true, leb-false, lt-ltb, le-ltb, ltb-true, ltb-false}
 use lib.IntN.{ℤ}
 use lib.Dec.{leb, ltb}
-use lib.ListN.{length, set, drop, length-append, length-drop, length-set}
-use lib.Seq.{sets, sets-eq, length-sets, take-append-seam, drop-append-add, drop-drop}
+use lib.ListN.{length, set, take, drop, length-append, length-drop, length-set}
+use lib.Seq.{sets, sets-eq, length-sets, take-append-seam, take-at, drop-at, drop-length, drop-append-add, drop-drop}
+use borrow.Rule.Slice.PartAt.{part-to-end}
+use borrow.Rule.Slice.PartMut.{putMid, post-is}
 use Rattle.meaning.specs.Base.{inFrontOf}
 use Rattle.meaning.specs.Reading.{Read, bad, got, onFrom, byteAt, many}
 use Rattle.meaning.specs.Values.{signed}
 use Rattle.meaning.specs.Covers as Covers
 use Rattle.meaning.specs.ByteLayouts.{row, rising, table, value, bytes2, bytes4, valueBytes, rowBytes}
-use Rattle.meaning.proofs.Parsing.{spans-within}
+use Rattle.meaning.proofs.Parsing.{same-value, spans-within, unsigned-signed}
 use Rattle.meaning.proofs.RoundTrip.{row-reads, FitRow}
 use Rattle.words.specs.Words.{Bytes, word32At}
 use Rattle.words.proofs.Laws.{split, byte-within-yes, byte-within-high, number32-read, number32-short, value-read}
-use Rattle.words.proofs.Laws.{many-none, many-bad, many-more}
-use Rattle.words.proofs.Signs.{unsigned-signed}
+use Rattle.words.proofs.Laws.{many-none, many-bad, many-more, first-of}
 use Rattle.image.specs.Images.{rowMeant, rowOr, riseIn, headBytes}
 use Rattle.image.specs.declared.Row.{Row}
 
@@ -96,6 +97,17 @@ pub row-improper : (r : Row) (next : ℕ) → 3 < r .table → rowOr r next ≡ 
 unfolding rowOr
 row-improper r next h = rw (lt-leb (r .table) 3 h)
 
+-- what was read has a table, and is the row that its words mean
+pub row-is : (r : Row) (at : ℕ) {row : Covers.Row} {next : ℕ} → rowOr r at ≡ got row next → (r .table ≤ 3) × (rowMeant r ≡ row)
+row-is r at e =
+    split (leb (r .table) 3)
+    (λ t.
+    let few = leb-true (r .table) 3 t in
+    (few, same-value (sym (row-proper r at few) ∙ e)))
+    (λ t.
+    let none = row-improper r at (leb-false (r .table) 3 t) in
+    absurd (let z : _≡_ {A = ℕ} 0 1 = cc in omega arith))
+
 -- a row that was read has 21 bytes
 pub row-size : {r : Covers.Row} → FitRow r → length (rowBytes r) ≡ 21
 unfolding rowBytes valueBytes bytes4
@@ -111,6 +123,15 @@ row-size {r} f = omega (arith, four (r .values) (f .proper .four))
 
 pub row-ends : (s : List ℕ) (at : ℕ) {r : Covers.Row} {next : ℕ} → row s at ≡ got r next → next ≡ at + 21
 row-ends s at e = omega (arith, row-reads .told e .ends, row-size (row-reads .fit e))
+
+-- where rows are left, the one whose words stand here is the first of them
+pub rows-first : (left : ℕ) (s : List ℕ) (here : ℕ) {rest : List Covers.Row} {end : ℕ} (r : Row) → 0 < left
+    → many left row s here ≡ got rest end → row s here ≡ rowOr r (here + 21)
+    → (r .table ≤ 3) × (more : List Covers.Row) × (rest ≡ rowMeant r ∷ more) × (many (left - 1) row s (here + 21) ≡ got more end)
+rows-first left s here r l e is =
+    let f = first-of row left s here l e in
+    let k = row-is r (here + 21) (sym is ∙ f .read) in
+    (k .0, f .others, f .all ∙ ap (λ (x : Covers.Row). x ∷ f .others) (sym (k .1)), rw (row-ends s here (f .read)) at (f .more))
 
 not-got : {A : Type 0} (r : Read A) → ((a : A) (next : ℕ) → r ≡ got a next → ⊥) → r ≡ bad
 not-got bad never = refl
@@ -186,6 +207,24 @@ in-front-on xs vs ys h =
       drop-drop (length vs) (length xs) ys,
       length-append xs vs,
     )
+
+-- the whole at the front, where a shorter list stands there already
+pub in-front-whole : (xs vs ys : List ℕ) → length xs ≤ length vs → inFrontOf vs (inFrontOf xs ys) ≡ inFrontOf vs ys
+in-front-whole xs vs ys h =
+    let e : length xs + (length vs - length xs) ≡ length vs = omega arith in
+    let k = length vs - length xs in
+    ap (λ (l : List ℕ). vs ++ l) (rw e at (drop-append-add xs (drop (length xs) ys) k ∙ drop-drop k (length xs) ys))
+
+-- bytes written through a part that starts behind those at the front and goes on to the end join them
+pub part-on : (xs vs ys : List ℕ) (at : ℕ) {out last : List ℕ} → out ≡ inFrontOf xs ys → length xs ≡ at
+    → last ≡ inFrontOf vs (take (length out - at) (drop at out)) → at ≤ length out
+    → putMid at (length out - at) out last ≡ inFrontOf (xs ++ vs) ys
+part-on xs vs ys at {out} {last} e size w h =
+    let front : take at out ≡ xs = rw e (take-at xs _ at size) in
+    let back : drop at out ≡ drop (length xs) ys = rw e (drop-at xs _ at size) in
+    let no-more = post-is at (length out) out h ∙ drop-length out in
+    let is : last ≡ vs ++ drop (length xs + length vs) ys = w ∙ rw (part-to-end out at, back, drop-drop (length vs) (length xs) ys) in
+    rw (no-more, append-nil last, front, is, length-append xs vs) (sym (append-assoc xs vs _))
 
 pub in-front-more : (xs vs ys : List ℕ) (at : ℕ) → length xs ≡ at → at + length vs ≤ length ys
     → sets (inFrontOf xs ys) at vs ≡ inFrontOf (xs ++ vs) ys

@@ -2,16 +2,15 @@
 -- slice; its bytes are the head and then the bytes of each row, so that writing each row back at its place gives the image.
 use mathlib.Core.Path.{_≡_, refl, sym, ap, _∙_}
 use mathlib.Core.Bool.{true, false}
-use mathlib.Core.List.{List, _++_, append-assoc, append-nil}
+use mathlib.Core.List.{List, _++_}
 use mathlib.Core.Option.{none, some}
 use Prim.Native.Nat.{ℕ, _+_, _-_, _*_, _≤_, _<_}
 use native.Mathlib.Omega.{arith}
-use borrow.Author.Tests.{le-leb, lt-leb, leb-true, leb-false, ltb-true, ltb-false}
+use borrow.Author.Tests.{le-leb, lt-leb, leb-true, ltb-true, ltb-false}
 use lib.Dec.{leb, ltb}
 use lib.ListN.{length, take, drop, length-append, length-take}
-use lib.Seq.{take-add, take-at, take-length, length-take-le, drop-length, drop-append-seam, drop-append-add, drop-drop}
-use borrow.Rule.Slice.PartAt.{part-to-end}
-use borrow.Rule.Slice.PartMut.{putMid, post-is}
+use lib.Seq.{take-add, take-length, length-take-le}
+use borrow.Rule.Slice.PartMut.{putMid}
 use Rattle.meaning.specs.Base.{inFrontOf}
 use Rattle.meaning.specs.Reading.{Read, bad, got, onFrom, must, number16, number32, many, readAll}
 use Rattle.meaning.specs.Covers as Covers
@@ -23,13 +22,13 @@ use Rattle.meaning.proofs.Parsing.{Spans, spans-as, spans-then, spans-take, on-
 use Rattle.meaning.proofs.Parsing.{must-got, number16-reads, number32-reads, length-bytes2, length-bytes4, read-all, framed-got}
 use Rattle.meaning.proofs.RoundTrip.{FitRow, row-reads, rows-read, imageFields}
 use Rattle.words.specs.Words.{Bytes, word16At, word32At, readable}
-use Rattle.words.proofs.Laws.{split, many-bad, many-more, number16-read, number16-short, number32-read, number32-short, readable-many}
+use Rattle.words.proofs.Laws.{split, number16-read, number16-short, number32-read, number32-short, readable-many}
 use Rattle.fields.specs.Fields.{wellFramed}
 use Rattle.fields.proofs.Laws.{frame-refused, fields-refused, length-refused, fields-taken}
-use Rattle.image.specs.Images.{rowMeant, rowOr, imageOr, WellFormed, riseIn, headBytes}
+use Rattle.image.specs.Images.{rowMeant, rowOr, imageOr, firstRow, WellFormed, riseIn, headBytes}
 use Rattle.image.specs.declared.ImageRead.the-variants.{Is}
 use Rattle.image.specs.declared.Row.{Row}
-use Rattle.image.proofs.Laws.{row-size, row-proper, row-improper, in-front-length}
+use Rattle.image.proofs.Laws.{row-size, row-proper, rows-first, in-front-length, in-front-whole, part-on}
 
 -- ---- n rows
 
@@ -182,6 +181,10 @@ laid {s} {next} {count} w =
       head = spans-as (cc) refl (spans-then (f .counted) (spans-then (f .version) (p .2)));
     }
 
+-- the rows are those that can be read
+pub rows-are : {s : List ℕ} {next count : ℕ} (w : WellFormed s next count) → readable count row s firstRow ≡ w .rows
+rows-are {s} {next} {count} w = readable-many row count s firstRow (w .rows) (length s) (laid w .read)
+
 -- ---- Writing an image back
 
 -- Up to `here` the output holds the image, and from there on what it held at first (`ys`); so many rows of the image are left.
@@ -191,48 +194,6 @@ pub record Copied (s ys out : List ℕ) (left here : ℕ) : Type 0 where
   pub size : here + 21 * left ≡ length s
   pub fits : length s ≤ length ys
   pub is : out ≡ inFrontOf (take here s) ys
-
-module _ (xs ys : List ℕ) where
-  -- past the bytes at the front stands what stood there
-  drop-in-front : (n : ℕ) → length xs ≤ n → drop n (inFrontOf xs ys) ≡ drop n ys
-  drop-in-front n h =
-      let e : length xs + (n - length xs) ≡ n = omega arith in
-      rw e at (drop-append-add xs (drop (length xs) ys) (n - length xs) ∙ drop-drop (n - length xs) (length xs) ys)
-
-  in-front-again : inFrontOf xs ys ≡ inFrontOf xs (inFrontOf xs ys)
-  in-front-again = ap (λ (l : List ℕ). xs ++ l) (sym (drop-append-seam xs (drop (length xs) ys)))
-
--- the whole at the front, where its first part stands there already
-in-front-whole : (s ys : List ℕ) (n : ℕ) → inFrontOf s (inFrontOf (take n s) ys) ≡ inFrontOf s ys
-in-front-whole s ys n =
-    ap (λ (l : List ℕ). s ++ l) (drop-in-front (take n s) ys (length s) (simp length-take (omega arith)))
-
--- a part of a list that starts at a place and goes on to the end, with bytes at its front
-part-written : (out last bytes : List ℕ) (at : ℕ) → at + length bytes ≤ length out
-    → last ≡ inFrontOf bytes (take (length out - at) (drop at out))
-    → putMid at (length out - at) out last ≡ take at out ++ bytes ++ drop (at + length bytes) out
-part-written out last bytes at h e =
-    let no-more = post-is at (length out) out (omega arith) ∙ drop-length out in
-    let is : last ≡ bytes ++ drop (at + length bytes) out =
-    rw (part-to-end out at) at e ∙ ap (λ (l : List ℕ). bytes ++ l) (drop-drop (length bytes) at out) in
-    rw (no-more, append-nil last, is) (sym (append-assoc (take at out) bytes (drop (at + length bytes) out)))
-
--- where rows are left, one stands here, and the others after it
-rows-first : (left : ℕ) (s : List ℕ) (here : ℕ) {rest : List Covers.Row} {end : ℕ} (r : Row) → 0 < left
-    → many left row s here ≡ got rest end → row s here ≡ rowOr r (here + 21)
-    → (r .table ≤ 3) × ((more : List Covers.Row) × (many (left - 1) row s (here + 21) ≡ got more end))
-rows-first left s here {rest} {end} r l e is =
-    split (leb (r .table) 3)
-    (λ f.
-    let few = leb-true (r .table) 3 f in
-    let here-is = is ∙ row-proper r (here + 21) few in (
-      few,
-      on-from-got (many (left - 1) row s (here + 21)) _ (sym (many-more row left s here (rowMeant r) (here + 21) l here-is) ∙ e)
-          (λ more end2 g same. (more, g ∙ ap (got more) (same-place same))),
-    ))
-    (λ f.
-    let no-row = many-bad row left s here l (is ∙ row-improper r (here + 21) (leb-false (r .table) 3 f)) in
-    absurd (let z : _≡_ {A = ℕ} 0 1 = cc in omega arith))
 
 module _ {s ys out : List ℕ} {left here : ℕ} (c : Copied s ys out left here) where
   pub copied-length : length out ≡ length ys
@@ -245,23 +206,19 @@ module _ {s ys out : List ℕ} {left here : ℕ} (c : Copied s ys out left here)
     pub copied-more : (last : List ℕ) → last ≡ inFrontOf (rowBytes (rowMeant r)) (take (length out - here) (drop here out))
         → Copied s ys (putMid here (length out - here) out last) (left - 1) (here + 21)
     copied-more last e =
-        let next = rows-first left s here r more (c .rows) is .1 in
+        let next = rows-first left s here r more (c .rows) is in
         let read = is ∙ row-proper r (here + 21) copied-table in
         let bytes = rowBytes (rowMeant r) in
         let long : length bytes ≡ 21 = row-size (row-reads .fit read) in
         let front : length (take here s) ≡ here = length-take-le here s (omega arith) in
         let grown : take (here + 21) s ≡ take here s ++ bytes =
         take-add here 21 s ∙ ap (λ (l : List ℕ). take here s ++ l) (rw long at (spans-take (row-reads .told read))) in
-        let before : take here out ≡ take here s = rw (c .is) (take-at (take here s) _ here front) in
-        let after : drop (here + 21) out ≡ drop (here + 21) ys = rw (c .is) (drop-in-front (take here s) ys (here + 21) (omega arith)) in
-        let size : length (take (here + 21) s) ≡ here + 21 = length-take-le (here + 21) s (omega arith) in
-        let written = part-written out last bytes here (omega (arith, copied-length)) e in
         record {
-          rest = next .0;
-          rows = next .1;
+          rest = next .1;
+          rows = next .3;
           size = omega arith;
           fits = c .fits;
-          is = written ∙ rw (long, before, after, size, grown);
+          is = part-on (take here s) bytes ys here (c .is) front e (omega (arith, copied-length)) ∙ rw grown;
         }
 
 pub copied-all : {s ys out : List ℕ} {left here : ℕ} (zs : List ℕ) → Copied s ys out left here → left ≤ 0 → ys ≡ inFrontOf (take 11 s) zs
@@ -269,7 +226,7 @@ pub copied-all : {s ys out : List ℕ} {left here : ℕ} (zs : List ℕ) → Cop
 copied-all {s} {ys} {out} {left} {here} zs c done e =
     let end : here ≡ length s = omega arith in
     let whole : take here s ≡ s = ap (λ (k : ℕ). take k s) end ∙ take-length s in
-    c .is ∙ rw (whole, e) (in-front-whole s zs 11)
+    c .is ∙ rw (whole, e) (in-front-whole (take 11 s) s zs (simp length-take (omega arith)))
 
 pub copied-none : {s : List ℕ} {next count : ℕ} (w : WellFormed s next count) (ys out : List ℕ) → length s ≤ length ys
     → out ≡ inFrontOf (headBytes (7 + 21 * count) next count) ys → (out ≡ inFrontOf (take 11 s) ys) × Copied s out out count 11
@@ -285,6 +242,6 @@ copied-none {s} {next} {count} w ys out h e =
         rows = l .read;
         size = omega arith;
         fits = omega (arith, ap length e, in-front-length head ys (omega arith));
-        is = rw start (in-front-again (take 11 s) ys);
+        is = rw start (sym (in-front-whole (take 11 s) (take 11 s) ys (omega arith)));
       },
     )

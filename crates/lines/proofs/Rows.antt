@@ -4,8 +4,6 @@ use mathlib.Core.Path.{_≡_, refl, sym, ap, _∙_}
 use mathlib.Core.List.{List, [], _∷_, _++_, map, append-nil, append-assoc}
 use Prim.Native.Nat.{ℕ, _+_, _-_, _*_, _≤_, _<_}
 use native.Mathlib.Omega.{arith}
-use borrow.Author.Tests.{leb-true, leb-false}
-use lib.Dec.{leb}
 use lib.ListN.{length}
 use Rattle.meaning.specs.Base.{ascii}
 use Rattle.meaning.specs.Reading.{got, many}
@@ -13,13 +11,13 @@ use Rattle.meaning.specs.Values.{signed}
 use Rattle.meaning.specs.Covers as Covers
 use Rattle.meaning.specs.ByteLayouts.{row}
 use Rattle.meaning.specs.EntryPoints.{line, decimal, signedDecimal, spaced, rowLines}
-use Rattle.meaning.proofs.Parsing.{on-from-got, same-value, same-place}
+use Rattle.meaning.proofs.Parsing.{same-value}
 use Rattle.words.specs.Words.{readable}
-use Rattle.words.proofs.Laws.{split, many-none, many-bad, many-more, readable-many}
+use Rattle.words.proofs.Laws.{many-none}
 use Rattle.image.specs.Images.{WellFormed, rowMeant, rowOr, firstRow}
 use Rattle.image.specs.declared.Row.{Row}
-use Rattle.image.proofs.Laws.{row-proper, row-improper}
-use Rattle.image.proofs.Whole.{laid, rows-end}
+use Rattle.image.proofs.Laws.{rows-first}
+use Rattle.image.proofs.Whole.{laid, rows-end, rows-are}
 use Rattle.lines.specs.Text.{PutsAt, PutsRun, RowsStand, rowLine}
 use Rattle.lines.proofs.Texts.{puts-nothing, puts-then, puts-as, puts-front}
 
@@ -43,21 +41,6 @@ pub record Listed (s ys out : List ℕ) (at count here left from : ℕ) (all : L
   pub fewer : left ≤ count
   pub whole : text ++ rowLines rest ≡ all
 
--- of the rows that are left the first is the one here
-rows-first : (left : ℕ) (s : List ℕ) (from : ℕ) {rest : List Covers.Row} {end : ℕ} (r : Row) → 0 < left
-    → row s from ≡ rowOr r (from + 21) → many left row s from ≡ got rest end
-    → (r .table ≤ 3) × (more : List Covers.Row) × (rest ≡ rowMeant r ∷ more) × (many (left - 1) row s (from + 21) ≡ got more end)
-rows-first left s from {rest} {end} r l is e =
-    split (leb (r .table) 3)
-    (λ f.
-    let few = leb-true (r .table) 3 f in
-    let read = many-more row left s from (rowMeant r) (from + 21) l (is ∙ row-proper r (from + 21) few) in
-    on-from-got (many (left - 1) row s (from + 21)) _ (sym read ∙ e)
-    (λ more end2 g same. (few, more, sym (same-value same), g ∙ ap (got more) (same-place same))))
-    (λ f.
-    let no-row = many-bad row left s from l (is ∙ row-improper r (from + 21) (leb-false (r .table) 3 f)) in
-    absurd (let z : _≡_ {A = ℕ} 0 1 = cc in omega arith))
-
 pub listed-none : (s ys : List ℕ) (at count : ℕ) → RowsStand s count
     → Listed s ys ys at count at count firstRow (rowLines (readable count row s firstRow))
 listed-none s ys at count w = record {
@@ -76,13 +59,13 @@ module _ {s ys out : List ℕ} {at count here left from : ℕ} {all : List ℕ} 
 
   module _ (more : 0 < left) (r : Row) (is : row s from ≡ rowOr r (from + 21)) where
     pub listed-table : r .table ≤ 3
-    listed-table = rows-first left s from r more is (l .rows) .0
+    listed-table = rows-first left s from r more (l .rows) is .0
 
     pub listed-more : {out2 : List ℕ} {here2 : ℕ} → PutsAt out out2 here 70 (rowLine (rowMeant r)) here2
         → Listed s ys out2 at count here2 (left - 1) (from + 21) all
     unfolding rowLines rowLine
     listed-more p =
-        let n = rows-first left s from r more is (l .rows) in
+        let n = rows-first left s from r more (l .rows) is in
         let here-line = rowLine (rowMeant r) in
         record {
           text = l .text ++ here-line;
@@ -103,11 +86,8 @@ module _ {s ys out : List ℕ} {at count here left from : ℕ} {all : List ℕ} 
 -- ---- The rows of a well-formed image
 
 module _ {s : List ℕ} {next count : ℕ} (w : WellFormed s next count) where
-  rows-are : readable count row s firstRow ≡ w .rows
-  rows-are = readable-many row count s firstRow (w .rows) (length s) (laid w .read)
-
   pub rows-stand : RowsStand s count
-  rows-stand = record { few = laid w .few; read = rw rows-are (laid w .read) }
+  rows-stand = record { few = laid w .few; read = rw (rows-are w) (laid w .read) }
 
   -- the first line and a line for each row are the lines of a run
   pub puts-run : {xs ys zs : List ℕ} {outcome reason k here r : ℕ} → 4535 ≤ length xs
@@ -116,5 +96,5 @@ module _ {s : List ℕ} {next count : ℕ} (w : WellFormed s next count) where
   puts-run long p q = record {
     is = λ m e.
         let same : m ≡ record { next = next; rows = w .rows } = cc (w .image) in
-        rw (same, w .counted, ← rows-are) (puts-front long (puts-then p q));
+        rw (same, w .counted, ← rows-are w) (puts-front long (puts-then p q));
   }

@@ -10,7 +10,8 @@ use Rattle.slots.specs.Slots.{tableAt, tableBytes, Frame, Stands, Holds}
 use Rattle.slots.proofs.Frames.{frame-refl, frame-wider, frame-join}
 use Rattle.slots.proofs.Tables.{table-kept-below, stands-kept-below}
 use Rattle.room.specs.Room.{LIVE, INSERTED, DELETED, NEW, OLD, CHOSEN, WORKED, WAITS, END, ROWS, ENTRIES, waitAt}
-use Rattle.loading.specs.Steps.{NoneWaits, TransitionStands, Emptied}
+use Rattle.transition.specs.Shown.{Emptied as TablesEmptied}
+use Rattle.loading.specs.Steps.{NoneWaits, Emptied}
 
 -- ---- What waits
 
@@ -56,26 +57,9 @@ module _ {xs x : List ℕ} (k : ℕ) (up : Upto xs x k) where
         empty = λ j b. up .empty j (omega arith);
       }
 
--- ---- The transition tables
-
-pub transition-emptied : {x0 x1 x2 x3 x4 : List ℕ} → Holds INSERTED ROWS x0 x1 [] → Holds DELETED ROWS x1 x2 [] → Holds NEW ROWS x2 x3 []
-    → Holds OLD ROWS x3 x4 [] → TransitionStands x0 x4
-unfolding tableBytes
-transition-emptied {x0} {x1} {x2} {x3} {x4} a b c d =
-    let f4 : Frame OLD CHOSEN x3 x4 = frame-wider (d .frame) (omega arith) (omega arith) in
-    let f3 : Frame NEW CHOSEN x2 x4 = frame-join (c .frame) f4 (omega arith) (omega arith) (omega arith) (omega arith) in
-    let f2 : Frame DELETED CHOSEN x1 x4 = frame-join (b .frame) f3 (omega arith) (omega arith) (omega arith) (omega arith) in
-    record {
-      frame = frame-join (a .frame) f2 (omega arith) (omega arith) (omega arith) (omega arith);
-      inserted = stands-kept-below f2 INSERTED ROWS (a .stands) (omega arith);
-      deleted = stands-kept-below f3 DELETED ROWS (b .stands) (omega arith);
-      new = stands-kept-below f4 NEW ROWS (c .stands) (omega arith);
-      old = d .stands;
-    }
-
 -- ---- Every table
 
-pub all-emptied : {x0 x1 x2 x3 x4 x5 : List ℕ} → END ≤ length x0 → Holds LIVE ROWS x0 x1 [] → TransitionStands x1 x2
+pub all-emptied : {x0 x1 x2 x3 x4 x5 : List ℕ} → END ≤ length x0 → Holds LIVE ROWS x0 x1 [] → TablesEmptied x1 x2
     → Holds CHOSEN ROWS x2 x3 [] → Holds WORKED ROWS x3 x4 [] → NoneWaits x4 x5 → Emptied x0 x5
 unfolding tableBytes
 all-emptied {x0} {x1} {x2} {x3} {x4} {x5} long a t b c w =
@@ -89,10 +73,10 @@ all-emptied {x0} {x1} {x2} {x3} {x4} {x5} long a t b c w =
           record {
             long = rw (f1 .len) long;
             live = stands-kept-below f2 LIVE ROWS (a .stands) (omega arith);
-            inserted = stands-kept-below f3 INSERTED ROWS (t .inserted) (omega arith);
-            deleted = stands-kept-below f3 DELETED ROWS (t .deleted) (omega arith);
-            new = stands-kept-below f3 NEW ROWS (t .new) (omega arith);
-            old = stands-kept-below f3 OLD ROWS (t .old) (omega arith);
+            inserted = stands-kept-below f3 INSERTED ROWS (t .inserted .stands) (omega arith);
+            deleted = stands-kept-below f3 DELETED ROWS (t .deleted .stands) (omega arith);
+            new = stands-kept-below f3 NEW ROWS (t .new .stands) (omega arith);
+            old = stands-kept-below f3 OLD ROWS (t .old .stands) (omega arith);
             chosen = stands-kept-below f4 CHOSEN ROWS (b .stands) (omega arith);
             worked = stands-kept-below (w .frame) WORKED ROWS (c .stands) (omega arith);
             waits = w .stands;

@@ -1,45 +1,32 @@
 -- The rows of the image join the live rows one after another. Those that are loaded, and then those that are left, are the image's.
-use mathlib.Core.Path.{_≡_, refl, sym, ap, _∙_}
+use mathlib.Core.Path.{_≡_, sym, ap, _∙_}
 use mathlib.Core.List.{List, [], _∷_, _++_, append-assoc, append-nil}
 use Prim.Native.Nat.{ℕ, _+_, _-_, _*_, _%_, _≤_, _<_}
 use native.Mathlib.Omega.{arith}
-use borrow.Author.Tests.{leb-true, leb-false}
-use lib.Dec.{leb}
 use lib.ListN.{length, length-append}
-use Rattle.meaning.specs.Reading.{Read, bad, got, many}
+use Rattle.meaning.specs.Reading.{got, many}
 use Rattle.meaning.specs.Covers as Covers
 use Rattle.meaning.specs.Covers.{Image}
 use Rattle.meaning.specs.ByteLayouts.{row}
-use Rattle.meaning.proofs.Parsing.{on-from-got, same-value, same-place}
+use Rattle.meaning.proofs.Parsing.{same-value}
 use Rattle.words.specs.Words.{word32At, readable}
-use Rattle.words.proofs.Laws.{split, many-none, many-bad, many-more, readable-many}
+use Rattle.words.proofs.Laws.{many-none, first-of}
 use Rattle.slots.specs.declared.Slot.{Slot}
 use Rattle.slots.specs.Slots.{tableAt, tableBytes, Frame, Stands, Holds}
 use Rattle.slots.proofs.Frames.{PutWord, frame-refl, frame-trans, frame-wider, word-kept-below}
-use Rattle.slots.proofs.Tables.{table-kept-above, stands-kept-above, table-length, holds-size}
+use Rattle.slots.proofs.Tables.{table-kept-above, table-length, holds-size}
 use Rattle.image.specs.declared.Row.{Row}
 use Rattle.image.specs.Images.{rowOr, WellFormed}
 use Rattle.image.specs.Images as Images
-use Rattle.image.proofs.Laws.{row-proper, row-improper, row-ends}
-use Rattle.image.proofs.Whole.{laid}
-use Rattle.room.specs.Room.{NEXT, LIVE, INSERTED, DELETED, NEW, OLD, CHOSEN, WORKED, ROWS, ENTRIES, waitAt, Laid}
-use Rattle.room.specs.Room.{rowMeant, rowsMeant, liveRows}
+use Rattle.image.proofs.Laws.{row-is, row-ends}
+use Rattle.image.proofs.Whole.{laid, rows-are}
+use Rattle.room.specs.Room.{NEXT, LIVE, INSERTED, ROWS, ENTRIES, waitAt, rowMeant, rowsMeant, liveRows}
+use Rattle.room.proofs.Kept.{laid-front}
 use Rattle.room.proofs.Live.{rows-pushed}
 use Rattle.loading.specs.Loads.{Loaded, Loads}
 use Rattle.loading.specs.Steps.{Emptied, RowLoaded}
 
 -- ---- A row
-
--- a row that can be read has a table, and is the one that its words mean
-row-is : (r : Row) (at : ℕ) {row : Covers.Row} {next : ℕ} → rowOr r at ≡ got row next → (r .table ≤ 3) × (Images.rowMeant r ≡ row)
-row-is r at e =
-    split (leb (r .table) 3)
-    (λ t.
-    let few = leb-true (r .table) 3 t in
-    (few, same-value (sym (row-proper r at few) ∙ e)))
-    (λ t.
-    let none = row-improper r at (leb-false (r .table) 3 t) in
-    absurd (let z : _≡_ {A = ℕ} 0 1 = cc in omega arith))
 
 -- the slot of a row: of no kind, as none but what waits has one
 abbrev slotOf : Row → Slot
@@ -81,28 +68,6 @@ row-loaded {s} {xs} {ys} at r is h =
           ∙ ap (λ (x : Covers.Row). rowsMeant (tableAt xs LIVE) ++ (x ∷ [])) (slot-means r (p .0) ∙ p .1);
     }
 
--- where rows are left, one stands here, and the others after it
-record First (left : ℕ) (s : List ℕ) (here : ℕ) (rest : List Covers.Row) (end : ℕ) : Type 0 where
-  first : Covers.Row
-  others : List Covers.Row
-  stands : row s here ≡ got first (here + 21)
-  after : many (left - 1) row s (here + 21) ≡ got others end
-  rows : rest ≡ first ∷ others
-
-rows-first : (left : ℕ) (s : List ℕ) (here : ℕ) {rest : List Covers.Row} {end : ℕ} → 0 < left
-    → many left row s here ≡ got rest end → First left s here rest end
-rows-first left s here {rest} {end} more e = go (row s here) refl
-  where
-    go : (r : Read Covers.Row) → row s here ≡ r → First left s here rest end
-    go bad q =
-        let none = many-bad row left s here more q in
-        absurd (let z : _≡_ {A = ℕ} 0 1 = cc in omega arith)
-    go (got r next) q =
-        let is : row s here ≡ got r (here + 21) = q ∙ ap (got r) (row-ends s here q) in
-        on-from-got (many (left - 1) row s (here + 21)) _ (sym (many-more row left s here r (here + 21) more is) ∙ e)
-        (λ others end2 g same.
-        record { first = r; others = others; stands = is; after = g ∙ ap (got others) (same-place same); rows = sym (same-value same) })
-
 -- ---- The loop
 
 -- The live rows, and then those that are left from here on, are the image's; only the live rows have changed since the tables were
@@ -116,10 +81,6 @@ pub record Loading (s xs x : List ℕ) (count left here : ℕ) : Type 0 where
   pub frame : Frame LIVE INSERTED xs x
   pub stands : Stands LIVE ROWS x
 
--- the rows of a well-formed image are those that can be read
-image-rows : {s : List ℕ} {next count : ℕ} (w : WellFormed s next count) → readable count row s 11 ≡ w .rows
-image-rows {s} {next} {count} w = readable-many row count s 11 (w .rows) (length s) (laid w .read)
-
 pub loading-start : {s x xs : List ℕ} {next count : ℕ} → WellFormed s next count → Emptied x xs → Loading s xs xs count count 11
 unfolding liveRows rowsMeant
 loading-start {s} {x} {xs} {next} {count} w e =
@@ -128,7 +89,7 @@ loading-start {s} {x} {xs} {next} {count} w e =
     record {
       rest = w .rows;
       read = l .read;
-      all = image-rows w ∙ rw (e .live);
+      all = rows-are w ∙ rw (e .live);
       size = omega arith;
       few = omega arith;
       frame = frame-refl;
@@ -143,11 +104,11 @@ one-over rs {left′ = left′} {r = r} p q = rw (p, q) (sym (append-assoc rs (r
 pub loading-more : {s xs x y : List ℕ} {count left here : ℕ} → Loading s xs x count left here → 0 < left → RowLoaded s here x y
     → Loading s xs y count (left - 1) (here + 21)
 loading-more {s} {xs} {x} {y} {count} {left} {here} c more r =
-    let f = rows-first left s here more (c .read) in
+    let f = first-of row left s here more (c .read) in
     record {
       rest = f .others;
-      read = f .after;
-      all = c .all ∙ one-over (liveRows x) (f .rows) (r .rows (f .first) (here + 21) (f .stands));
+      read = rw (row-ends s here (f .read)) at (f .more);
+      all = c .all ∙ one-over (liveRows x) (f .all) (r .rows (f .first) (f .next) (f .read));
       size = omega arith;
       few = omega (arith, r .size);
       frame = frame-trans (c .frame) (r .frame);
@@ -155,24 +116,6 @@ loading-more {s} {xs} {x} {y} {count} {left} {here} c more r =
     }
 
 -- ---- The end
-
-module _ {xs ys : List ℕ} (w : Laid xs) (f : Frame LIVE INSERTED xs ys) where
-  laid-kept : Stands LIVE ROWS ys → Laid ys
-  laid-kept live =
-      record {
-        long = rw (f .len) (w .long);
-        live = live;
-        inserted = stands-kept-above f INSERTED ROWS (w .inserted) (omega arith);
-        deleted = stands-kept-above f DELETED ROWS (w .deleted) (omega arith);
-        new = stands-kept-above f NEW ROWS (w .new) (omega arith);
-        old = stands-kept-above f OLD ROWS (w .old) (omega arith);
-        chosen = stands-kept-above f CHOSEN ROWS (w .chosen) (omega arith);
-        worked = stands-kept-above f WORKED ROWS (w .worked) (omega arith);
-        waits = λ k b. stands-kept-above f (waitAt k) ENTRIES (w .waits k b) (omega arith);
-      }
-
-  wait-kept : (k : ℕ) → k < 16 → tableAt ys (waitAt k) ≡ tableAt xs (waitAt k)
-  wait-kept k b = table-kept-above f (waitAt k) ENTRIES (w .waits k b) (omega arith)
 
 pub loading-done : {s x0 x1 x2 x : List ℕ} {next count left here : ℕ} → WellFormed s next count → PutWord x0 x1 NEXT next
     → Emptied x1 x2 → Loading s x2 x count left here → left ≤ 0 → Loads s x0 x
@@ -188,10 +131,10 @@ loading-done {s} {x0} {x1} {x2} {x} {next} {count} {left} {here} w p e c done =
     loaded : Loaded image x0 x
     loaded =
         record {
-          laid = laid-kept (e .laid) (c .frame) (c .stands);
+          laid = laid-front (e .laid) (frame-wider (c .frame) (omega arith) (omega arith)) (c .stands);
           next = word-kept-below (c .frame) NEXT (omega arith) ∙ word-kept-below (e .frame) NEXT (omega arith) ∙ p .same;
-          rows = sym (append-nil (liveRows x)) ∙ rw (← none-left) (sym (c .all) ∙ image-rows w);
-          empty = λ k b. wait-kept (e .laid) (c .frame) k b ∙ e .waits k b;
+          rows = sym (append-nil (liveRows x)) ∙ rw (← none-left) (sym (c .all) ∙ rows-are w);
+          empty = λ k b. table-kept-above (c .frame) (waitAt k) ENTRIES (e .laid .waits k b) (omega arith) ∙ e .waits k b;
           beyond =
               record {
                 len = c .frame .len ∙ e .frame .len ∙ p .frame .len;

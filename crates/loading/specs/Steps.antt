@@ -7,7 +7,7 @@ use Rattle.meaning.specs.Covers.{Row}
 use Rattle.meaning.specs.ByteLayouts as ByteLayouts
 use Rattle.words.specs.Words.{word32At}
 use Rattle.slots.specs.Slots.{tableAt, Frame, Stands}
-use Rattle.room.specs.Room.{LIVE, INSERTED, DELETED, NEW, OLD, CHOSEN, WAITS, END, ROWS, ENTRIES, waitAt, Laid, liveRows}
+use Rattle.room.specs.Room.{LIVE, INSERTED, WAITS, END, ROWS, ENTRIES, waitAt, Laid, liveRows}
 
 -- ---- Emptying
 
@@ -16,14 +16,6 @@ pub record NoneWaits (xs ys : List ℕ) : Type 0 where
   pub frame : Frame WAITS END xs ys
   pub stands : (k : ℕ) → k < 16 → Stands (waitAt k) ENTRIES ys
   pub empty : (k : ℕ) → k < 16 → tableAt ys (waitAt k) ≡ []
-
--- the four transition tables stand, and nothing else changed
-pub record TransitionStands (xs ys : List ℕ) : Type 0 where
-  pub frame : Frame INSERTED CHOSEN xs ys
-  pub inserted : Stands INSERTED ROWS ys
-  pub deleted : Stands DELETED ROWS ys
-  pub new : Stands NEW ROWS ys
-  pub old : Stands OLD ROWS ys
 
 -- every table stands, no row is live, nothing waits for any rule, and nothing but the tables changed
 pub record Emptied (xs ys : List ℕ) : Type 0 where

@@ -6,7 +6,7 @@ ghost use Rattle.slots.specs.Slots.{Stands};
 ghost use Rattle.image.specs.Images.{WellFormed};
 ghost use Rattle.room.specs.Room.{LIVE, END, ROWS};
 ghost use Rattle.loading.specs.Loads.{Loads};
-ghost use Rattle.loading.specs.Steps.{NoneWaits, TransitionStands, Emptied, RowLoaded};
+ghost use Rattle.loading.specs.Steps.{NoneWaits, Emptied, RowLoaded};
 use slots::Slot;
 
 // Nothing waits for any rule.
@@ -21,24 +21,13 @@ fn empty_waits(room: &mut [u8])
     }
 }
 
-// The transition tables stand, and are empty.
-fn empty_transition(room: &mut [u8])
-    requires { ⌜ END ≤ length (now room) ⌝ }
-    ensures { λ _. ⌜ TransitionStands (now (room .entry)) (now (room .exit)) ⌝ }
-{
-    slots::empty(room, room::INSERTED, room::ROWS);
-    slots::empty(room, room::DELETED, room::ROWS);
-    slots::empty(room, room::NEW, room::ROWS);
-    slots::empty(room, room::OLD, room::ROWS);
-}
-
 // Every table stands, and is empty.
 fn empty_all(room: &mut [u8])
     requires { ⌜ END ≤ length (now room) ⌝ }
     ensures { λ _. ⌜ Emptied (now (room .entry)) (now (room .exit)) ⌝ }
 {
     slots::empty(room, room::LIVE, room::ROWS);
-    empty_transition(room);
+    transition::empty_tables(room);
     slots::empty(room, room::CHOSEN, room::ROWS);
     slots::empty(room, room::WORKED, room::ROWS);
     empty_waits(room);

@@ -132,7 +132,7 @@ taken-select {rows} {low = low} p (oneTaken {r = r} {rs = rs} a b q c) = go (p r
     go false ih = taken-lower (omega arith) ih
 
 -- taken too from other rows, in which a lookup of a handle above `low` finds the same
-taken-in : {rows rows′ rs : List Row} {low : ℕ} → ((h : ℕ) → low < h → rowAt h rows′ ≡ rowAt h rows) → Taken rows low rs
+pub taken-in : {rows rows′ rs : List Row} {low : ℕ} → ((h : ℕ) → low < h → rowAt h rows′ ≡ rowAt h rows) → Taken rows low rs
     → Taken rows′ low rs
 taken-in f noneTaken = noneTaken
 taken-in {rows′ = rows′} f (oneTaken {low = low} {r = r} a p q c) =
@@ -304,36 +304,48 @@ plus-range a b v e = go (leb (mag (a +ℤ b)) 2147483647) refl e
     go true l e = subst (λ z. mag z ≤ 2147483647) (same-some e) (leb-true _ _ l)
     go false l e = clash refl e
 
-workOut-range : (r : Row) (e : Expression) (v : ℤ) → Proper r → GoodExpression e → workOut r e ≡ some v → mag v ≤ 2147483647
+-- a row with values in range, whatever table it names: an action reads no more of those that a query shows
+pub record Ranged (r : Row) : Type 0 where
+  pub inRange : InRange (r .values)
+
+pub proper-ranged : {r : Row} → Proper r → Ranged r
+proper-ranged p = record { inRange = p .inRange }
+
+rising-ranged : {high low : ℕ} {rs : List Row} → Rising high low rs → Each Ranged rs
+rising-ranged noRow = noElement
+rising-ranged (above a b p c) = anElement (proper-ranged p) (rising-ranged c)
+
+workOut-range : (r : Row) (e : Expression) (v : ℤ) → Ranged r → GoodExpression e → workOut r e ≡ some v → mag v ≤ 2147483647
 unfolding workOut
 workOut-range r (fixed w) v p (goodFixed l) q = subst (λ z. mag z ≤ 2147483647) (same-some q) l
 workOut-range r (column c) v p goodColumn q = subst (λ z. mag z ≤ 2147483647) (same-some q) (cell-range r c (p .inRange))
 workOut-range r (sum c w) v p goodSum q = plus-range (cell r c) w v q
 
-pub workOutAll-range : (es : List Expression) (r : Row) (vs : List ℤ) → Proper r → Each GoodExpression es → workOutAll es r ≡ some vs
+workOutAll-range : (es : List Expression) (r : Row) (vs : List ℤ) → Ranged r → Each GoodExpression es → workOutAll es r ≡ some vs
     → (length vs ≡ length es) × InRange vs
 unfolding workOutAll
 workOutAll-range es r vs p g q = each-result (workOut r) vs (λ e v l f. workOut-range r e v p l f) g q
 
 -- ---- The rows that a query shows
 
-pub record ProperTables (t : Transition) : Type 0 where
-  pub ofInserted : Each Proper (t .insertedRows)
-  pub ofDeleted : Each Proper (t .deletedRows)
-  pub ofNew : Each Proper (t .newUpdated)
-  pub ofOld : Each Proper (t .oldUpdated)
+pub record RangedTables (t : Transition) : Type 0 where
+  pub ofInserted : Each Ranged (t .insertedRows)
+  pub ofDeleted : Each Ranged (t .deletedRows)
+  pub ofNew : Each Ranged (t .newUpdated)
+  pub ofOld : Each Ranged (t .oldUpdated)
 
-source-proper : (t : Transition) (rows : List Row) (s : Source) → ProperTables t → Each Proper rows → Each Proper (sourceRows t rows s)
+source-ranged : (t : Transition) (rows : List Row) (s : Source) → RangedTables t → Each Ranged rows → Each Ranged (sourceRows t rows s)
 unfolding sourceRows
-source-proper t rows (current n) p f = each-select (λ r. eqb (r .table) n) f
-source-proper t rows inserted p f = p .ofInserted
-source-proper t rows deleted p f = p .ofDeleted
-source-proper t rows newUpdated p f = p .ofNew
-source-proper t rows oldUpdated p f = p .ofOld
+source-ranged t rows (current n) p f = each-select (λ r. eqb (r .table) n) f
+source-ranged t rows inserted p f = p .ofInserted
+source-ranged t rows deleted p f = p .ofDeleted
+source-ranged t rows newUpdated p f = p .ofNew
+source-ranged t rows oldUpdated p f = p .ofOld
 
-pub chosen-proper : (t : Transition) (rows : List Row) (q : Query) → ProperTables t → Each Proper rows → Each Proper (chosen t rows q)
+chosen-ranged : (t : Transition) (m : Image) (q : Query) → RangedTables t → Sound m → Each Ranged (chosen t (m .rows) q)
 unfolding chosen
-chosen-proper t rows q p f = each-select (allHold t rows (q .terms)) (source-proper t rows (q .source) p f)
+chosen-ranged t m q p s =
+    each-select (allHold t (m .rows) (q .terms)) (source-ranged t (m .rows) (q .source) p (rising-ranged (s .rises)))
 
 -- of a table, they may be taken
 pub chosen-taken : (t : Transition) (m : Image) (n : ℕ) (ts : List Term) → Sound m → Taken (m .rows) 0 (chosen t (m .rows) (rowsOf n ts))
@@ -342,7 +354,7 @@ chosen-taken t m n ts s = taken-select (allHold t (m .rows) ts) (taken-select (�
 
 -- ---- An action of a rule
 
-pub perform-made : (t : Transition) (a : Action) (m : Image) → ProperTables t → GoodAction a → Sound m → MadeOf m (perform t a m)
+pub perform-made : (t : Transition) (a : Action) (m : Image) → RangedTables t → GoodAction a → Sound m → MadeOf m (perform t a m)
 unfolding perform
 perform-made t rollback m p goodRollback s = endsMade byRollback Of.none
 perform-made t (insertRow n vs) m p (goodInsertRow l f) s = insertAll-made n (vs ∷ []) m l (anElement f noElement)
@@ -351,11 +363,11 @@ perform-made t (insertFromQuery n q es) m p (goodInsertFrom l k g) s =
     insertAll-made n vss m l
     (each-result {Q = Four} (workOutAll es) vss
     (λ r vs f d. let w = workOutAll-range es r vs f g d in record { four = w .0 ∙ k; ranged = w .1 })
-    (chosen-proper t (m .rows) q p (rising-proper (s .rises))) e .1))
+    (chosen-ranged t m q p s) e .1))
 perform-made t (deleteRows n ts) m p goodDeleteRows s = deleteAll-made (chosen t (m .rows) (rowsOf n ts)) m (chosen-taken t m n ts s)
 perform-made t (updateRows n mask es ts) m p (goodUpdateRows g) s =
     let rs = chosen t (m .rows) (rowsOf n ts) in
     maybe-made (eachOr (workOutAll es) rs) (fails-made sumOutOfRange) (λ vss e.
     updateAll-made mask rs vss m (chosen-taken t m n ts s)
     (each-result {Q = InRange} (workOutAll es) vss (λ r vs f d. workOutAll-range es r vs f g d .1)
-    (chosen-proper t (m .rows) (rowsOf n ts) p (rising-proper (s .rises))) e .1))
+    (chosen-ranged t m (rowsOf n ts) p s) e .1))

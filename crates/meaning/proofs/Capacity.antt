@@ -52,10 +52,10 @@ listed-something (oneEntry {p = p} {ps = ps} a c r) h i q = go (or-cases (eqb h 
 
 -- ---- An entry's handle is live before or after
 
-abbrev handles : List Row → List ℕ
+abbrev pub handles : List Row → List ℕ
 handles rs = map (λ r. r .handle) rs
 
-has-live : (h : ℕ) (r : Row) (rs : List Row) → rowAt h rs ≡ some r → has h (handles rs) ≡ true
+pub has-live : (h : ℕ) (r : Row) (rs : List Row) → rowAt h rs ≡ some r → has h (handles rs) ≡ true
 has-live h r [] q = clash (rowAt-none h) q
 has-live h r (x ∷ xs) q = go (has-live h r xs) (look h x xs (some r) q)
   where

@@ -42,28 +42,28 @@ pub record Gives {A : Type 0} (p : Parser A) (P : A → Type 0) : Type 0 where
 pub readAll-gives : {A : Type 0} {P : A → Type 0} {p : Parser A} (s : List ℕ) (a : A) → Gives p P → readAll p s ≡ some a → P a
 readAll-gives {p = p} s a g e = g .fit (read-all p s e .1)
 
-reads-give : {A : Type 0} {P : A → Type 0} {p : Parser A} {bytesOf : A → List ℕ} → Reads p bytesOf P → Gives p P
+pub reads-give : {A : Type 0} {P : A → Type 0} {p : Parser A} {bytesOf : A → List ℕ} → Reads p bytesOf P → Gives p P
 reads-give reads = record { fit = reads .fit }
 
-bind-gives : {A B : Type 0} {P : A → Type 0} {Q : B → Type 0} {p : Parser A} {f : A → Parser B} → Gives p P
+pub bind-gives : {A B : Type 0} {P : A → Type 0} {Q : B → Type 0} {p : Parser A} {f : A → Parser B} → Gives p P
     → ((a : A) → P a → Gives (f a) Q) → Gives (p >>= f) Q
 bind-gives {p = p} g k = record { fit = λ {s} {at} e. on-from-got (p s at) _ e (λ a mid one rest. k a (g .fit one) .fit rest) }
 
 -- after what may be anything
-past-gives : {A B : Type 0} {Q : B → Type 0} (p : Parser A) {f : A → Parser B} → ((a : A) → Gives (f a) Q) → Gives (p >>= f) Q
+pub past-gives : {A B : Type 0} {Q : B → Type 0} (p : Parser A) {f : A → Parser B} → ((a : A) → Gives (f a) Q) → Gives (p >>= f) Q
 past-gives p k = record { fit = λ {s} {at} e. on-from-got (p s at) _ e (λ a mid one rest. k a .fit rest) }
 
 module _ {A : Type 0} {P : A → Type 0} where
-  pure-gives : {a : A} → P a → Gives (pure a) P
+  pub pure-gives : {a : A} → P a → Gives (pure a) P
   pure-gives p = record { fit = λ e. subst P (same-value e) p }
 
-  malformed-gives : Gives malformed P
+  pub malformed-gives : Gives malformed P
   malformed-gives = record { fit = λ {a = a} {next = next} e. never e }
     where
       never : {a : A} {next : ℕ} → _≡_ {A = Read A} bad (got a next) → P a
       never e = absurd (let z : _≡_ {A = ℕ} 0 1 = cc in omega arith)
 
-  if-gives : {p q : Parser A} (b : Bool) → Gives p P → Gives q P → Gives (if b then p else q) P
+  pub if-gives : {p q : Parser A} (b : Bool) → Gives p P → Gives q P → Gives (if b then p else q) P
   if-gives true g h = g
   if-gives false g h = h
 
@@ -73,7 +73,7 @@ module _ {A : Type 0} {P : A → Type 0} where
       record { fit = λ {s} {at} e. on-from-got (must b s at) _ e (λ u mid one rest. k (must-got b s at one .0) .fit rest) }
 
   -- as many as were asked for, each what the parser gives
-  many-gives : {p : Parser A} (n : ℕ) → Gives p P → Gives (many n p) (λ xs. (length xs ≡ n) × Each P xs)
+  pub many-gives : {p : Parser A} (n : ℕ) → Gives p P → Gives (many n p) (λ xs. (length xs ≡ n) × Each P xs)
   many-gives n g = record { fit = λ {s} {at} e. many-each (λ s at x next e. g .fit e) n s at e }
 
   -- what is given is also something else
@@ -83,10 +83,10 @@ module _ {A : Type 0} {P : A → Type 0} where
   framed-gives : {p : Parser A} → Gives p P → Gives (framed p) P
   framed-gives {p} g = record { fit = λ {s} {at} e. g .fit (framed-got p s at e .body) }
 
-values-give : (n : ℕ) → Gives (many n value) (λ vs. (length vs ≡ n) × InRange vs)
+pub values-give : (n : ℕ) → Gives (many n value) (λ vs. (length vs ≡ n) × InRange vs)
 values-give n = reads-give (values-read n)
 
-table-gives : Gives ByteLayouts.table (λ t. (0 ≤ t) × (t ≤ 3))
+pub table-gives : Gives ByteLayouts.table (λ t. (0 ≤ t) × (t ≤ 3))
 table-gives = reads-give table-reads
 
 -- ---- Log
@@ -124,7 +124,7 @@ log-good s qs e = readAll-gives s qs log-gives e
 
 -- ---- Book
 
-expression-gives : Gives ByteLayouts.expression GoodExpression
+pub expression-gives : Gives ByteLayouts.expression GoodExpression
 unfolding ByteLayouts.expression ByteLayouts.expressionOf ByteLayouts.constant ByteLayouts.ofColumn ByteLayouts.sum
 expression-gives =
     past-gives byte (λ n.

@@ -26,7 +26,7 @@ use Rattle.meaning.proofs.Images.{rising-proper, make-sound, makeAll-so
 use Rattle.meaning.proofs.Traces.{operations-append, operations-made, Steps, commits, meetsLimit, endsRun, goesOn, Runs, logEnds}
 use Rattle.meaning.proofs.Traces.{logDone}
 use Rattle.meaning.proofs.ActionsFit.{GoodOperation, GoodAction, Breaks, MadeOf, wentMade, endsMade, if-made, andThen-made}
-use Rattle.meaning.proofs.ActionsFit.{operate-made, perform-made, ProperTables}
+use Rattle.meaning.proofs.ActionsFit.{operate-made, perform-made, proper-ranged, RangedTables}
 
 -- ---- The rows of effects
 
@@ -162,14 +162,14 @@ module _ (rule : Rule) where
         go true q = live-proper h b q
         go false q = clash refl q
 
-    pub transition-proper : (given : NetEffect) → Each (λ p. RowOf Proper (p .1)) given → ProperTables (transition rule rows given)
+    transition-ranged : (given : NetEffect) → Each (λ p. RowOf Proper (p .1)) given → RangedTables (transition rule rows given)
     unfolding transition
-    transition-proper given g =
+    transition-ranged given g =
         record {
-          ofInserted = gather-each (λ p. insertedRow rule rows (p .0) (p .1)) (λ p b f q. inserted-proper (p .0) (p .1) b q) g;
-          ofDeleted = gather-each (λ p. deletedRow rule (p .1)) (λ p b f q. deleted-proper (p .1) b f q) g;
-          ofNew = gather-each (λ p. newRow rule rows (p .0) (p .1)) (λ p b f q. new-proper (p .0) (p .1) b q) g;
-          ofOld = gather-each (λ p. oldRow rule (p .1)) (λ p b f q. old-proper (p .1) b f q) g;
+          ofInserted = gather-each (λ p. insertedRow rule rows (p .0) (p .1)) (λ p b f q. proper-ranged (inserted-proper (p .0) (p .1) b q)) g;
+          ofDeleted = gather-each (λ p. deletedRow rule (p .1)) (λ p b f q. proper-ranged (deleted-proper (p .1) b f q)) g;
+          ofNew = gather-each (λ p. newRow rule rows (p .0) (p .1)) (λ p b f q. proper-ranged (new-proper (p .0) (p .1) b q)) g;
+          ofOld = gather-each (λ p. oldRow rule (p .1)) (λ p b f q. proper-ranged (old-proper (p .1) b f q)) g;
         }
 
 -- ---- The log, and a consideration
@@ -179,7 +179,7 @@ unfolding runLog
 runLog-made [] m noElement s = wentMade Of.none
 runLog-made (q ∷ qs) m (anElement g gs) s = andThen-made s (operate-made q m g s) (λ n c. runLog-made qs n gs c)
 
-pub runActions-made : (t : Transition) (more : List Action) (m : Image) → ProperTables t → Each GoodAction more → Sound m
+pub runActions-made : (t : Transition) (more : List Action) (m : Image) → RangedTables t → Each GoodAction more → Sound m
     → MadeOf m (runActions t more m)
 unfolding runActions
 runActions-made t [] m p noElement s = wentMade Of.none
@@ -193,7 +193,7 @@ pub considerRule-made : (r : Rule) (given : NetEffect) (m : Image) → GoodRule 
 unfolding considerRule considerWith
 considerRule-made r given m g f s =
     let t = transition r (m .rows) given in
-    let p = transition-proper r (m .rows) (rising-proper (s .rises)) given f in
+    let p = transition-ranged r (m .rows) (rising-proper (s .rises)) given f in
     if-made (conditionHolds t (m .rows) (r .condition)) (λ e. runActions-made t (r .actions) m p (g .actionsGood) s) (λ e. wentMade Of.none)
 
 -- a rule of the book is considered with what waits for it, on the image as it is

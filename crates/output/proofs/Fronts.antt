@@ -5,35 +5,17 @@ use mathlib.Core.List.{List, [], _∷_, _++_, append-assoc, append-nil}
 use Prim.Native.Nat.{ℕ, suc, _+_, _-_, _*_, _≤_, _<_}
 use native.Mathlib.Numerals.{add-one}
 use native.Mathlib.Omega.{arith}
-use borrow.Rule.Slice.PartAt.{part-to-end}
-use borrow.Rule.Slice.PartMut.{putMid, post-is}
-use lib.ListN.{length, getD, take, drop, set, length-append, length-map, length-set}
-use lib.Seq.{take-at, take-suc, take-length, drop-at, drop-cons, drop-drop, drop-length, drop-append-add, length-take-le, set-at}
+use borrow.Rule.Slice.PartMut.{putMid}
+use lib.ListN.{length, getD, take, drop, set, length-append, length-set}
+use lib.Seq.{take-suc, take-length, drop-cons, length-take-le, set-at}
 use Rattle.meaning.specs.Base.{inFrontOf}
 use Rattle.meaning.specs.ByteLayouts.{bytes2, bytes4, valueBytes, rowBytes, rowsBytes, imageBytes}
 use Rattle.slots.specs.declared.Slot.{Slot}
 use Rattle.slots.specs.Slots.{blank}
 use Rattle.room.specs.Room.{rowMeant, rowsMeant}
+use Rattle.room.proofs.Live.{rows-length}
 use Rattle.image.specs.Images.{headBytes}
-use Rattle.image.proofs.Laws.{in-front-length}
-
--- ---- Bytes behind those at the front
-
--- written through a part that starts behind the front, to the end
-part-on : (xs vs ys : List ℕ) (at : ℕ) {out last : List ℕ} → out ≡ inFrontOf xs ys → length xs ≡ at
-    → last ≡ inFrontOf vs (take (length out - at) (drop at out)) → at ≤ length out
-    → putMid at (length out - at) out last ≡ inFrontOf (xs ++ vs) ys
-part-on xs vs ys at {out} {last} e size w h =
-    let front : take at out ≡ xs = rw e (take-at xs _ at size) in
-    let back : drop at out ≡ drop (length xs) ys = rw e (drop-at xs _ at size) in
-    let no-more = post-is at (length out) out h ∙ drop-length out in
-    let is : last ≡ vs ++ drop (length xs + length vs) ys = w ∙ rw (part-to-end out at, back, drop-drop (length vs) (length xs) ys) in
-    rw (no-more, append-nil last, front, is, length-append xs vs) (sym (append-assoc xs vs _))
-
--- the whole at the front, where its first part stands there already
-in-front-whole : (xs vs ys : List ℕ) → inFrontOf (xs ++ vs) (inFrontOf xs ys) ≡ inFrontOf (xs ++ vs) ys
-in-front-whole xs vs ys =
-    rw (length-append xs vs, drop-append-add xs (drop (length xs) ys) (length vs), drop-drop (length vs) (length xs) ys)
+use Rattle.image.proofs.Laws.{in-front-length, in-front-whole, part-on}
 
 -- ---- The rows of slots
 
@@ -50,10 +32,6 @@ rows-size : (l : List Slot) → length (rowsBytes (rowsMeant l)) ≡ 21 * length
 unfolding rowsMeant rowsBytes
 rows-size [] = refl
 rows-size (x ∷ l) = omega (arith, length-append (rowBytes (rowMeant x)) (rowsBytes (rowsMeant l)), row-size x, rows-size l)
-
-rows-count : (l : List Slot) → length (rowsMeant l) ≡ length l
-unfolding rowsMeant
-rows-count l = length-map l rowMeant
 
 head-size : (n next count : ℕ) → length (headBytes n next count) ≡ 11
 unfolding headBytes bytes4 bytes2
@@ -78,7 +56,7 @@ image-parts : (next : ℕ) (l : List Slot) → imageBytes (record { next = next;
 unfolding imageBytes
 image-parts next l =
     let size = fields-size next (length l) (rowsBytes (rowsMeant l)) ∙ ap (λ (k : ℕ). 7 + k) (rows-size l) in
-    rw (rows-count l, size) (head-rows (7 + 21 * length l) next (length l) (rowsBytes (rowsMeant l)))
+    rw (rows-length l, size) (head-rows (7 + 21 * length l) next (length l) (rowsBytes (rowsMeant l)))
 
 image-size : (next n : ℕ) (l : List Slot) → length (imageOf next n l) ≡ 11 + 21 * length l
 image-size next n l =
@@ -104,14 +82,13 @@ unfolding rowsMeant rowsBytes
 writing-start l next n ys out all few long e =
     let head = headBytes (7 + 21 * n) next n in
     let none : n - n ≡ 0 = omega arith in
-    let again : inFrontOf head ys ≡ inFrontOf head (inFrontOf head ys) = rw append-nil at (sym (in-front-whole head [] ys)) in
     record {
       all = all;
       few = few;
       within = omega arith;
       place = refl;
       long = omega (arith, ap length e, in-front-length head ys (omega (arith, head-size (7 + 21 * n) next n)));
-      is = rw (none, append-nil head, e) again;
+      is = rw (none, append-nil head, e) (sym (in-front-whole head head ys (omega arith)));
     }
 
 module _ {l : List Slot} {next n : ℕ} {ys out : List ℕ} {left here : ℕ} (w : Writing l next n ys out left here) where
@@ -149,8 +126,9 @@ module _ {l : List Slot} {next n : ℕ} {ys out : List ℕ} {left here : ℕ} (w
       → out ≡ inFrontOf (imageBytes (record { next = next; rows = rowsMeant l })) zs
   writing-done none zs e =
       let all : n - left ≡ length l = omega (arith, w .all) in
+      let head = headBytes (7 + 21 * n) next n in
       w .is ∙ rw (all, take-length l, image-parts next l, e, w .all)
-      (in-front-whole (headBytes (7 + 21 * n) next n) (rowsBytes (rowsMeant l)) zs)
+      (in-front-whole head (head ++ rowsBytes (rowsMeant l)) zs (omega (arith, length-append head (rowsBytes (rowsMeant l)))))
 
 -- ---- Copying bytes: the first i stand at the front
 

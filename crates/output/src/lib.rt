@@ -10,12 +10,6 @@ ghost use Rattle.room.specs.Room.{NEXT, LIVE, ROWS, liveRows};
 ghost use Rattle.output.specs.Outputs.{LiveRow};
 use image::Row;
 
-fn wide(x: u8) -> usize
-    ensures { λ r. ⌜ r ≡ x ⌝ }
-{
-    x as usize
-}
-
 // The live row i, as a row of an image.
 fn live_row(room: &[u8], i: usize) -> Row
     requires { ⌜ Stands LIVE ROWS (now room) ⌝ }
@@ -25,7 +19,7 @@ fn live_row(room: &[u8], i: usize) -> Row
     let e = slots::slot_at(room, room::LIVE, room::ROWS, i);
     Row {
         handle: e.handle,
-        table: wide(e.table),
+        table: words::wide(e.table),
         v0: e.v0,
         v1: e.v1,
         v2: e.v2,

@@ -5,20 +5,19 @@ use mathlib.Core.Path.{_≡_, refl, ap, _∙_}
 use mathlib.Core.Bool.{Bool, true, false}
 use mathlib.Core.List.{List, [], _∷_, _++_, map, map-append, append-assoc, append-nil}
 use mathlib.Core.Option.{some}
-use Prim.Native.Nat.{ℕ, zero, suc, _-_, _≤_, _<_}
+use Prim.Native.Nat.{ℕ, suc, _-_, _≤_, _<_}
 use native.Mathlib.Nat.{sub-self}
-use native.Mathlib.Numerals.{unary-clauses}
 use native.Mathlib.Omega.{arith}
 use borrow.Author.Tests.{eqb-true, eqb-false}
 use lib.Dec.{eqb}
 use lib.ListN.{length, getD, getElem?, take, set, replicate, length-set, length-append}
 use lib.Seq.{getD-set-same, getD-set-other, take-suc-set}
-use Rattle.meaning.specs.Reading.{Read, bad, got, Parser, onFrom, many}
+use Rattle.meaning.specs.Reading.{Read, got, many}
 use Rattle.meaning.specs.Covers.{Rule}
 use Rattle.meaning.specs.ByteLayouts as ByteLayouts
 use Rattle.meaning.specs.Processing.TotalOrder.{orderOf, totalOrder}
 use Rattle.words.specs.Words.{readable}
-use Rattle.words.proofs.Laws.{readable-many, readable-more, readable-none}
+use Rattle.words.proofs.Laws.{all-same, FirstOf, first-of, readable-many, readable-more, readable-none}
 use Rattle.book.specs.declared.Rule.{Rule as RuleStood}
 use Rattle.book.specs.declared.RuleRead.{RuleRead}
 use Rattle.book.specs.declared.RuleRead.the-variants.{Is}
@@ -28,52 +27,10 @@ use Rattle.order.specs.Order.{orderMeant}
 use Rattle.plan.specs.Plans.{rulesIn, OutlineOf, Outlined, Placed, Planned}
 use Rattle.plan.specs.declared.Outline.{Outline}
 
--- ---- The first of those that can be read
-
--- where n can be read, the first of them, and the others after it
-pub record FirstOf {A : Type 0} (p : Parser A) (n : ℕ) (s : List ℕ) (at end : ℕ) : Type 0 where
-  pub first : A
-  pub next : ℕ
-  pub read : p s at ≡ got first next
-  pub others : many (n - 1) p s next ≡ got (readable (n - 1) p s next) end
-
-module _ {A : Type 0} where
-  -- the two parts of what was read
-  pub record Parts (r : Read A) (f : ℕ → Read (List A)) (end : ℕ) : Type 0 where
-    pub first : A
-    pub next : ℕ
-    pub others : List A
-    pub read : r ≡ got first next
-    pub more : f next ≡ got others end
-
-  parts : (r : Read A) (f : ℕ → Read (List A)) (xs : List A) (end : ℕ)
-      → onFrom r (λ x d. onFrom (f d) (λ ys e. got (x ∷ ys) e)) ≡ got xs end → Parts r f end
-  parts bad f xs end h = absurd (let z : _≡_ {A = ℕ} 0 1 = cc in omega arith)
-  parts (got x d) f xs end h = go (f d) refl h
-    where
-      go : (q : Read (List A)) → f d ≡ q → onFrom q (λ ys e. got (x ∷ ys) e) ≡ got xs end → Parts (got x d) f end
-      go bad e h = absurd (let z : _≡_ {A = ℕ} 0 1 = cc in omega arith)
-      go (got ys k) e h =
-          let same : k ≡ end = cc in
-          record { first = x; next = d; others = ys; read = refl; more = rw (← same) e }
-
-  pub first-of : (p : Parser A) (n : ℕ) (s : List ℕ) (at : ℕ) (xs : List A) (end : ℕ) → 0 < n → many n p s at ≡ got xs end
-      → FirstOf p n s at end
-  unfolding many
-  first-of p zero s at xs end h e = absurd (omega arith)
-  first-of p (suc n) s at xs end h e =
-      let t = parts (p s at) (many n p s) xs end e in
-      record {
-        first = t .first;
-        next = t .next;
-        read = t .read;
-        others = simp unary-clauses (rw (readable-many p n s (t .next) (t .others) end (t .more)) (t .more));
-      }
-
-  -- the element behind those in front
-  pub element-behind : (xs ys : List A) (x : A) (k : ℕ) → length xs ≡ k → getElem? (xs ++ (x ∷ ys)) k ≡ some x
-  element-behind [] ys x k e = rw (← e)
-  element-behind (y ∷ xs) ys x k e = rw (← e) (element-behind xs ys x (length xs) refl)
+-- the element behind those in front
+element-behind : {A : Type 0} (xs ys : List A) (x : A) (k : ℕ) → length xs ≡ k → getElem? (xs ++ (x ∷ ys)) k ≡ some x
+element-behind [] ys x k e = rw (← e)
+element-behind (y ∷ xs) ys x k e = rw (← e) (element-behind xs ys x (length xs) refl)
 
 -- ---- An outline of a rule
 
@@ -106,12 +63,6 @@ pub record Planning (s : List ℕ) (n : ℕ) (starts : List ℕ) (active : List 
   pub idle : (k : ℕ) → n - left ≤ k → getD active k false ≡ false
   pub masked : take (n - left) masks ≡ map (λ r. r .precedes) done
 
--- no place of an array of one value holds another, and past its end is the default
-all-same : (n k : ℕ) → getD (replicate n false) k false ≡ false
-all-same zero k = refl
-all-same (suc n) zero = refl
-all-same (suc n) (suc k) = all-same n k
-
 pub nothing-planned : (s : List ℕ) (n : ℕ) → n ≤ 16 → many n (ByteLayouts.rule n) s 8 ≡ got (rulesIn s n) (length s)
     → Planning s n (replicate 16 0) (replicate 16 false) (replicate 16 0) 8 n
 nothing-planned s n h e = record {
@@ -126,13 +77,14 @@ nothing-planned s n h e = record {
   end = length s;
   rest = e;
   placed = λ k l. absurd (omega arith);
-  idle = λ k l. all-same 16 k;
+  idle = λ k l. all-same 16 k false;
   masked = rw (sub-self n);
 }
 
 module _ {s : List ℕ} {n : ℕ} {starts : List ℕ} {active : List Bool} {masks : List ℕ} {here left : ℕ}
     (p : Planning s n starts active masks here left) where
-  one-planned-of : 0 < left → (t : FirstOf (ByteLayouts.rule n) left s here (p .end)) (o : Outline) → OutlineOf (t .first) (t .next) o
+  one-planned-of : {rs : List Rule} → 0 < left → (t : FirstOf (ByteLayouts.rule n) left s here rs (p .end)) (o : Outline)
+      → OutlineOf (t .first) (t .next) o
       → Planning s n (set starts (n - left) here) (set active (n - left) (o .active)) (set masks (n - left) (o .precedes))
       (o .next) (left - 1)
   one-planned-of h t o is =
@@ -151,7 +103,7 @@ module _ {s : List ℕ} {n : ℕ} {starts : List ℕ} {active : List Bool} {mask
         counted = rw (length-append (p .done) (t .first ∷ []), up) (omega (arith, p .counted));
         rules = p .rules ∙ rw (more, is .ends, append-assoc);
         end = p .end;
-        rest = rw (is .ends) (t .others);
+        rest = rw (is .ends, readable-many (ByteLayouts.rule n) (left - 1) s (t .next) (t .others) (p .end) (t .more)) (t .more);
         placed = λ k l. place k (omega arith) inStarts inActive more (eqb k (n - left)) refl;
         idle = λ k l.
             let other : k ≢ n - left = λ e. omega (arith, p .within) in
@@ -182,7 +134,7 @@ module _ {s : List ℕ} {n : ℕ} {starts : List ℕ} {active : List Bool} {mask
       → Planning s n (set starts (n - left) here) (set active (n - left) (o .active)) (set masks (n - left) (o .precedes))
       (o .next) (left - 1)
   one-planned h o is =
-      let t = first-of (ByteLayouts.rule n) left s here _ (p .end) h (p .rest) in
+      let t = first-of (ByteLayouts.rule n) left s here h (p .rest) in
       one-planned-of h t o (rw (t .read) at is)
 
   pub all-planned : left ≤ 0 → (order : Order) → orderMeant n order ≡ orderOf (take n masks)

@@ -8,10 +8,10 @@ use native.Mathlib.Numerals.{unary-clauses}
 use lib.ListN.{length, getD}
 use Rattle.room.specs.Room.{END, Laid, Kept}
 use Rattle.room.specs.Represents.{Running}
+use Rattle.room.proofs.Kept.{kept-refl, kept-trans}
 use Rattle.changes.specs.declared.Reason.{Reason}
 use Rattle.changes.specs.declared.Step.{Step}
 use Rattle.changes.specs.declared.Step.the-variants.{Went, RolledBack, Failed}
-use Rattle.changes.proofs.Keeping.{kept-refl, kept-trans}
 use Rattle.plan.specs.declared.Plan.{Plan}
 use Rattle.plan.specs.Plans.{Planned}
 use Rattle.trigger.specs.declared.Next.{Next}

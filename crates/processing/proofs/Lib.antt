@@ -1,4 +1,3 @@
-mod Parsed
 mod OneStep
 mod Turns
 mod Going

@@ -3,7 +3,6 @@ use mathlib.Core.Path.{_≡_, ap}
 use mathlib.Core.Bool.{Bool}
 use mathlib.Core.List.{List, map}
 use Prim.Native.Nat.{ℕ}
-use native.Mathlib.Omega.{arith}
 use lib.ListN.{length, length-replicate}
 use Rattle.meaning.specs.Covers as Covers
 use Rattle.meaning.specs.Covers.{Image, Rule, LogOperation}
@@ -12,15 +11,16 @@ use Rattle.meaning.specs.RowOperations.{RowOperation, makeAll}
 use Rattle.meaning.specs.Processing.{runLog, ended, afterEvents, afterLog, steps, process, made}
 use Rattle.meaning.specs.Processing.Actions.{went, ends, onward}
 use Rattle.meaning.proofs.Made.{Sound}
-use Rattle.meaning.proofs.StepsFit.{built-log}
 use Rattle.words.specs.Words.{readable}
 use Rattle.room.specs.Represents.{Represents, Running, madeAll}
+use Rattle.room.proofs.Kept.{kept-trans}
 use Rattle.room.proofs.Marks.{starting, starting-log, reached-starting}
 use Rattle.changes.specs.declared.Reason.{Reason}
 use Rattle.changes.specs.declared.Step.{Step}
 use Rattle.changes.specs.declared.Step.the-variants.{Went, RolledBack, Failed}
 use Rattle.changes.specs.Steps.{Follows, Acts}
-use Rattle.changes.proofs.Keeping.{kept-trans}
+use Rattle.series.proofs.Composed.{After, acts-after}
+use Rattle.series.proofs.Loops.{log-makes}
 use Rattle.plan.specs.declared.Plan.{Plan}
 use Rattle.plan.specs.Plans.{rulesIn}
 use Rattle.trigger.specs.Triggers.{orderIn}
@@ -28,8 +28,7 @@ use Rattle.processing.specs.declared.Outcome.the-variants as outcome
 use Rattle.processing.specs.declared.Ended.{Ended}
 use Rattle.processing.specs.Endings.{outcomeMeant, Starts, Processes}
 use Rattle.processing.specs.Rest.{Reaches, Midway, Steps}
-use Rattle.processing.proofs.Parsed.{rules-good, operations-good}
-use Rattle.processing.proofs.Turns.{Led, led-on, led-back, led-fails, after-ends, ends-there}
+use Rattle.processing.proofs.Turns.{Led, led-back, led-fails, after-ends, ends-there}
 
 -- ---- What the log results in
 
@@ -89,26 +88,20 @@ module _ (book log : List ℕ) (plan : Plan) (n : ℕ) {xs ys : List ℕ} {step 
       ends-run limit (ap outcomeMeant (told .0)) (told .1) (λ start sound p. led-fails (followed start sound p) e)
 
   module _ (e : step ≡ Went) where
-    led : (start : Image) → Sound start → Represents xs (plan .active) (starting (rulesIn book (plan .count)) start)
-        → Led ys (plan .active) (starting (rulesIn book (plan .count)) start) (runLog (readable n operation log 7) start) went
-    led start sound p = led-on (followed start sound p) e
+    after : (start : Image) → Sound start → Represents xs (plan .active) (starting (rulesIn book (plan .count)) start)
+        → After start (starting (rulesIn book (plan .count)) start) ys (plan .active) (runLog (readable n operation log 7) start)
+    unfolding starting
+    after start sound p = acts-after (log-makes log n 7) (rw e at a) (reached-starting (rulesIn book (plan .count)) sound) p
 
     -- it goes on from a state that is reached
     reaches-on : (start : Image) (sound : Sound start) (p : Represents xs (plan .active) (starting (rulesIn book (plan .count)) start))
-        → Reaches ys book plan start (afterLog (rulesIn book (plan .count)) (orderIn plan) start (led start sound p .new))
+        → Reaches ys book plan start (afterLog (rulesIn book (plan .count)) (orderIn plan) start (after start sound p .new))
     unfolding afterLog starting
     reaches-on start sound p =
         let rules = rulesIn book (plan .count) in
-        let way = led start sound p in
-        let after = built-log rules (orderIn plan) start (rules-good book (plan .count)) sound (operations-good n log) (way .is) in
+        let way = after start sound p in
         record {
-          reached =
-              record {
-                sound = sound;
-                made = after .doneFits;
-                image = after .imageIs;
-                marked = λ k. omega (arith, reached-starting rules sound .marked k);
-              };
+          reached = rw (← starting-log rules (orderIn plan) start (way .new)) (way .reached);
           represents = rw (← starting-log rules (orderIn plan) start (way .new)) (way .represents);
           marks = length-replicate (length rules) 0;
         }
@@ -122,7 +115,7 @@ module _ (book log : List ℕ) (plan : Plan) (n : ℕ) {xs ys : List ℕ} {step 
         record {
           beyond = kept-trans (a .beyond) (rw (a .beyond .len) at (s .beyond));
           ends = λ start sound p.
-              rw (process-went (rulesIn book (plan .count)) (orderIn plan) limit (readable n operation log 7) start (led start sound p .new)
-              (led start sound p .is))
+              rw (process-went (rulesIn book (plan .count)) (orderIn plan) limit (readable n operation log 7) start
+              (after start sound p .new) (after start sound p .is))
               (after-ends _ (s .from .ends start _ (reaches-on start sound p)));
         }

@@ -15,8 +15,10 @@ use Rattle.meaning.specs.RowOperations.{RowOperation}
 use Rattle.meaning.specs.Processing.{State, Event, Ending, ended, afterEvents, waits, triggered, consider, moved, firstTriggered}
 use Rattle.meaning.specs.Processing.TransitionTables.{wakes}
 use Rattle.meaning.specs.Processing.Actions.{Result, went, ends}
-use Rattle.meaning.proofs.Lists.{and-true, first-is, there-below}
-use Rattle.meaning.proofs.StepsFit.{Built, built-moved}
+use Rattle.meaning.proofs.Lists.{Each, and-true, first-is, there-below}
+use Rattle.meaning.proofs.StepsFit.{GoodRule, Built, built-moved}
+use Rattle.meaning.proofs.RunsFit.{rule-gives}
+use Rattle.words.proofs.Laws.{readable-each}
 use Rattle.room.specs.Represents.{Represents, madeAll}
 use Rattle.room.proofs.Marks.{seen, seen-moved, reached-seen}
 use Rattle.changes.specs.declared.Reason.{Reason}
@@ -33,7 +35,6 @@ use Rattle.processing.specs.declared.Outcome.the-variants as outcome
 use Rattle.processing.specs.declared.Ended.{Ended}
 use Rattle.processing.specs.Endings.{outcomeMeant, EndsAs}
 use Rattle.processing.specs.Rest.{Reaches, Midway, EndsFrom}
-use Rattle.processing.proofs.Parsed.{rules-good}
 use Rattle.processing.proofs.OneStep.{steps-quiet, steps-limit, steps-went, steps-ends, first-below}
 
 -- ---- What a step led to
@@ -169,7 +170,7 @@ module _ {xs book : List ℕ} {plan : Plan} {found : Next} (t : TriggersFirst xs
             → Reaches ys book plan start (moved (rulesOf book plan) s k (led a .new))
         unfolding moved seen
         reaches-on {start} {s} a =
-            let good = rules-good book (plan .count) in
+            let good : Each GoodRule (rulesOf book plan) = readable-each (rule-gives (plan .count)) (plan .count) book 8 in
             let before : Built (rulesOf book plan) (orderIn plan) start good (a .reached .sound) s =
             record { doneFits = a .reached .made; imageIs = a .reached .image } in
             let after = built-moved (rulesOf book plan) (orderIn plan) start good (a .reached .sound) before k (led a .is) in

@@ -1,6 +1,6 @@
 -- A change of the chosen rows alone leaves every other table of the room, since no two of them overlap: where the room was laid it is
--- laid, and its live rows, its transition tables and the rows of each source stay.
-use mathlib.Core.Path.{_≡_, ap}
+-- laid, and the rows of each source stay.
+use mathlib.Core.Path.{_≡_}
 use mathlib.Core.List.{List}
 use Prim.Native.Nat.{ℕ, _+_, _≤_}
 use native.Mathlib.Omega.{arith}
@@ -8,9 +8,10 @@ use lib.Dec.{eqb, ltb}
 use lib.ListN.{length}
 use Rattle.words.proofs.Laws.{split}
 use Rattle.slots.specs.Slots.{tableAt, tableBytes, Frame, Stands}
-use Rattle.slots.proofs.Tables.{table-kept-below, stands-kept-below, stands-kept-above}
-use Rattle.room.specs.Room.{LIVE, INSERTED, DELETED, NEW, OLD, CHOSEN, WORKED, ROWS, ENTRIES, waitAt, Laid}
-use Rattle.room.specs.Room.{rowsMeant, liveRows, transitionIn}
+use Rattle.slots.proofs.Frames.{frame-wider}
+use Rattle.slots.proofs.Tables.{table-kept-below, stands-kept-above}
+use Rattle.room.specs.Room.{CHOSEN, WORKED, ROWS, Laid}
+use Rattle.room.proofs.Kept.{laid-aside}
 use Rattle.query.specs.Chosen.{baseOf}
 
 -- ---- A source's table stands in the room, below the chosen rows
@@ -54,31 +55,7 @@ module _ {xs ys : List ℕ} (l : Laid xs) (f : Frame CHOSEN (CHOSEN + tableBytes
   pub laid-kept : Stands CHOSEN ROWS ys → Laid ys
   unfolding tableBytes
   laid-kept s =
-      record {
-        long = rw (f .len) (l .long);
-        live = stands-kept-below f LIVE ROWS (l .live) (omega arith);
-        inserted = stands-kept-below f INSERTED ROWS (l .inserted) (omega arith);
-        deleted = stands-kept-below f DELETED ROWS (l .deleted) (omega arith);
-        new = stands-kept-below f NEW ROWS (l .new) (omega arith);
-        old = stands-kept-below f OLD ROWS (l .old) (omega arith);
-        chosen = s;
-        worked = stands-kept-above f WORKED ROWS (l .worked) (omega arith);
-        waits = λ k h. stands-kept-above f (waitAt k) ENTRIES (l .waits k h) (omega arith);
-      }
-
-  pub live-kept : liveRows ys ≡ liveRows xs
-  unfolding liveRows tableBytes
-  live-kept = ap rowsMeant (table-kept-below f LIVE ROWS (l .live) (omega arith))
-
-  pub transition-kept : transitionIn ys ≡ transitionIn xs
-  unfolding transitionIn tableBytes
-  transition-kept =
-      rw (
-        table-kept-below f INSERTED ROWS (l .inserted) (omega arith),
-        table-kept-below f DELETED ROWS (l .deleted) (omega arith),
-        table-kept-below f NEW ROWS (l .new) (omega arith),
-        table-kept-below f OLD ROWS (l .old) (omega arith),
-      )
+      laid-aside l (frame-wider f (omega arith) (omega arith)) s (stands-kept-above f WORKED ROWS (l .worked) (omega arith))
 
   pub source-kept : (source : ℕ) → tableAt ys (baseOf source) ≡ tableAt xs (baseOf source)
   source-kept source = table-kept-below f (baseOf source) ROWS (source-stands l source) (source-below source)

@@ -16,9 +16,10 @@ use Rattle.slots.proofs.Tables.{table-length}
 use Rattle.terms.specs.declared.Query.{Query}
 use Rattle.terms.specs.Terms.{queryMeant}
 use Rattle.room.specs.Room.{CHOSEN, ROWS, Laid, rowsMeant}
+use Rattle.room.proofs.Kept.{kept-below, live-kept, transition-kept}
 use Rattle.query.specs.Chosen.{baseOf, Chose}
 use Rattle.query.proofs.Laws.{wanted, chosen-rows}
-use Rattle.query.proofs.Kept.{base-stands, laid-kept, live-kept, transition-kept, source-kept}
+use Rattle.query.proofs.Kept.{base-stands, laid-kept, source-kept}
 
 -- ---- What is left of a list, by its length: the last `left` of n
 
@@ -99,12 +100,13 @@ module _ (book : List ℕ) (triggers : ℕ) (q : Query) where
         → Chose xs x (queryMeant book triggers q)
     choosing-done {x} {left} s none =
         let each : List Slot → List Slot = λ r. tableAt x CHOSEN ++ select (wanted x0 book triggers q) r in
+        let same = kept-below (h .frame) in
         let whole = s .list ∙ ap each (rest-none (tableAt x0 base) n left (s .size) none) ∙ append-nil (tableAt x CHOSEN) in
         record {
           frame = frame-trans (h .frame) (s .frame);
           stands = s .stands;
           rows =
-              rw (← transition-kept l (h .frame), ← live-kept l (h .frame))
+              rw (← transition-kept same l (omega arith) (omega arith), ← live-kept same l (omega arith) (omega arith))
               (ap rowsMeant (sym whole) ∙ rw (s .place) (sym (chosen-rows x0 book triggers q)));
         }
 
@@ -132,8 +134,9 @@ module _ (book : List ℕ) (triggers : ℕ) (q : Query) where
 
       test-was : b ≡ wanted x0 book triggers q (getD (tableAt x0 base) (n - left) blank)
       test-was =
+          let same = kept-below (s .frame) in
           test
-          ∙ rw (transition-kept (s .laid) (s .frame), live-kept (s .laid) (s .frame))
+          ∙ rw (transition-kept same (s .laid) (omega arith) (omega arith), live-kept same (s .laid) (omega arith) (omega arith))
           (ap (wanted x0 book triggers q) here)
 
       rest : drop (n - left) (tableAt x0 base)

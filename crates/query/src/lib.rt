@@ -16,12 +16,6 @@ use terms::Term;
 use terms::TermRead;
 use terms::Terms;
 
-fn wide(x: u8) -> usize
-    ensures { λ r. ⌜ r ≡ x ⌝ }
-{
-    x as usize
-}
-
 // The value of a row in a column; past the last column it is 0, as in the specification.
 pub fn cell(e: Slot, column: usize) -> u32
     ensures { λ r. ⌜ signed r ≡ Queries.cell (rowMeant e) column ⌝ }
@@ -53,7 +47,7 @@ fn shows(source: usize, e: Slot) -> bool
     ensures { λ r. ⌜ r ≡ Chosen·shows source e ⌝ }
 {
     if source < 4 {
-        return wide(e.table) == source;
+        return words::wide(e.table) == source;
     }
     true
 }

@@ -4,7 +4,7 @@
 use mathlib.Core.Path.{_≡_, refl, ap}
 use mathlib.Core.Logic.{_⊎_, inl, inr}
 use mathlib.Core.Bool.{Bool, true, false}
-use mathlib.Core.List.{List, [], _∷_, map}
+use mathlib.Core.List.{List, [], _∷_}
 use mathlib.Core.Option.{Option, none, some}
 use Prim.Native.Nat.{ℕ, suc, _≤_, _<_}
 use native.Mathlib.Omega.{arith}
@@ -17,9 +17,9 @@ use Rattle.meaning.specs.RowOperations.{RowOperation, Effect, NetEffect, rowAt,
 use Rattle.meaning.specs.Processing.{State, waits}
 use Rattle.meaning.specs.Processing.TransitionTables.{deletedRow, oldRow, insertedRow, newRow, transition}
 use Rattle.meaning.specs.Trace.{Differs, stays, comes, goes, changes}
-use Rattle.meaning.proofs.Lists.{true-is-false, or-cases, clash, any-back, has, eqb-self, Distinct, noNumber, another, no-longer}
-use Rattle.meaning.proofs.Lookups.{Look, head, later, look, rowAt-none}
+use Rattle.meaning.proofs.Lists.{true-is-false, or-cases, clash, has, eqb-self, Distinct, noNumber, another, no-longer}
 use Rattle.meaning.proofs.NetEffects.{Listed, noEntry, oneEntry, says-net, netEffect-listed}
+use Rattle.meaning.proofs.Capacity.{handles, has-live}
 use Rattle.meaning.proofs.Lives.{differs}
 use Rattle.room.specs.Room.{ROWS, liveRows}
 use Rattle.room.specs.Drawn.{drawnFor, Few}
@@ -104,17 +104,6 @@ module _ (f : ℕ → Effect → Option Row) where
           (r .0, rw (ne-eqb (p .0) h (λ q. omega arith)) (r .1))
 
 -- ---- Counted against the rows of an image
-
-abbrev handles : List Row → List ℕ
-handles rs = map (λ r. r .handle) rs
-
-has-live : (h : ℕ) (r : Row) (rs : List Row) → rowAt h rs ≡ some r → has h (handles rs) ≡ true
-has-live h r [] q = clash (rowAt-none h) q
-has-live h r (x ∷ xs) q = go (has-live h r xs) (look h x xs (some r) q)
-  where
-    go : (rowAt h xs ≡ some r → has h (handles xs) ≡ true) → Look h x xs (some r) → has h (handles (x ∷ xs)) ≡ true
-    go ih (head e o) = rw (e, eqb-self h)
-    go ih (later e o) = any-back (eqb h) (x .handle ∷ []) (handles xs) (ih o)
 
 -- a live row
 record Lives (h : ℕ) (rs : List Row) : Type 0 where

@@ -1,37 +1,26 @@
 -- The operations that a room that represents a state can make fit its image: an insert of a slot with the next handle where there is room,
 -- a delete of a live slot, an update of one that changes only the columns of its mask. The row of a live slot is the image's.
 use mathlib.Core.Path.{_≡_, refl, sym, ap, _∙_}
-use mathlib.Core.Bool.{Bool, true, false}
+use mathlib.Core.Bool.{Bool}
 use mathlib.Core.List.{List}
 use Prim.Native.Nat.{ℕ, _≤_, _<_}
 use native.Mathlib.Omega.{arith}
-use lib.Dec.{ltb}
-use lib.Signed.{mag}
-use lib.ListN.{length, getD, length-map}
-use borrow.Author.Tests.{ltb-true, ltb-false}
-use Rattle.meaning.specs.Values.{signed}
+use lib.ListN.{length, getD}
 use Rattle.meaning.specs.Covers.{Image, lastHandle}
 use Rattle.meaning.specs.RowOperations.{inserts, deletes, updates}
 use Rattle.meaning.specs.Processing.{State}
 use Rattle.meaning.specs.Trace.{OnlyIn}
 use Rattle.meaning.proofs.Lists.{noElement, anElement}
+use Rattle.meaning.proofs.Parsing.{signed-fits}
 use Rattle.meaning.proofs.Made.{Proper, Fits, insertFits, deleteFits, updateFits}
 use Rattle.words.specs.Words.{word32At}
 use Rattle.slots.specs.declared.Slot.{Slot}
 use Rattle.slots.specs.Slots.{tableAt, blank}
 use Rattle.slots.proofs.Frames.{Fits as SlotFits}
 use Rattle.slots.proofs.Order.{find-there}
-use Rattle.room.specs.Room.{NEXT, LIVE, ROWS, rowMeant, rowsMeant, liveRows}
+use Rattle.room.specs.Room.{NEXT, LIVE, ROWS, rowMeant, liveRows}
 use Rattle.room.specs.Represents.{Represents, Reached}
-use Rattle.room.proofs.Live.{live-sorted, found-row}
-
-signed-fits : (n : ℕ) → n < 4294967296 → mag (signed n) ≤ 2147483647
-unfolding signed
-signed-fits n h = go (ltb n 2147483648) refl
-  where
-    go : (t : Bool) → ltb n 2147483648 ≡ t → mag (signed n) ≤ 2147483647
-    go true e = rw e (omega (arith, ltb-true n 2147483648 e))
-    go false e = rw e (omega (arith, ltb-false n 2147483648 e))
+use Rattle.room.proofs.Live.{rows-length, live-sorted, found-row}
 
 -- a slot whose fields fit and whose table is one of the four is a proper row
 pub proper-slot : {e : Slot} → SlotFits e → e .table ≤ 3 → Proper (rowMeant e)
@@ -49,8 +38,8 @@ proper-slot {e} f t =
 
 pub live-length : {s : State} {xs : List ℕ} {active : List Bool} → Represents xs active s
     → length (tableAt xs LIVE) ≡ length (s .image .rows)
-unfolding liveRows rowsMeant
-live-length {xs = xs} p = sym (length-map (tableAt xs LIVE) rowMeant) ∙ ap length (p .rows)
+unfolding liveRows
+live-length {xs = xs} p = sym (rows-length (tableAt xs LIVE)) ∙ ap length (p .rows)
 
 pub fits-insert : {s : State} {xs : List ℕ} {active : List Bool} → Represents xs active s → (e : Slot) → e .handle ≡ word32At xs NEXT
     → Proper (rowMeant e) → length (tableAt xs LIVE) < ROWS → word32At xs NEXT < lastHandle → Fits (s .image) (inserts (rowMeant e))

@@ -7,7 +7,7 @@ use mathlib.Core.Option.{none, some}
 use Prim.Native.Nat.{ℕ, zero, suc, _<_}
 use native.Mathlib.Omega.{arith}
 use lib.Dec.{eqb}
-use lib.ListN.{length, getD, set}
+use lib.ListN.{length, getD, set, length-map}
 use borrow.Author.Tests.{eq-eqb, ne-eqb}
 use Rattle.meaning.specs.Covers.{Row, Image}
 use Rattle.meaning.specs.RowOperations.{rowAt, without, withRow}
@@ -20,7 +20,7 @@ use Rattle.slots.specs.declared.Slot.{Slot}
 use Rattle.slots.specs.declared.Found.{Found}
 use Rattle.slots.specs.declared.Found.the-variants.{At, Nothing}
 use Rattle.slots.specs.Slots.{tableAt, removeAt, blank, Sorted, findIn}
-use Rattle.slots.proofs.Order.{Absent, find-at, find-nothing}
+use Rattle.slots.proofs.Order.{Absent, find-at, find-nothing, tail-sorted}
 use Rattle.room.specs.Room.{LIVE, rowMeant, rowsMeant, liveRows}
 use Rattle.room.specs.Represents.{Represents, Reached}
 
@@ -47,9 +47,6 @@ rising-rises (e ∷ l) (above a d p c) (suc i) (suc j) h b = rising-rises l c i 
 pub rising-sorted : {high low : ℕ} (l : List Slot) → Rising high low (rowsMeant l) → Sorted l
 rising-sorted l r = record { rises = rising-rises l r }
 
-tail-sorted : {e : Slot} {l : List Slot} → Sorted (e ∷ l) → Sorted l
-tail-sorted s = record { rises = λ i j h b. s .rises (suc i) (suc j) (omega arith) (omega arith) }
-
 -- behind the first slot there is no other of its handle
 tail-absent : {e : Slot} {l : List Slot} (h : ℕ) → Sorted (e ∷ l) → e .handle ≡ h → Absent h l
 tail-absent h s q = record { differs = λ j b f. omega (arith, s .rises 0 (suc j) (omega arith) (omega arith)) }
@@ -66,7 +63,7 @@ head-other {e} h i s b q = ne-eqb (e .handle) h (λ f. omega (arith, s .rises 0 
 
 -- ---- The row of a handle
 
-pub rowAt-slot : (h i : ℕ) (l : List Slot) → Sorted l → i < length l → getD l i blank .handle ≡ h
+rowAt-slot : (h i : ℕ) (l : List Slot) → Sorted l → i < length l → getD l i blank .handle ≡ h
     → rowAt h (rowsMeant l) ≡ some (rowMeant (getD l i blank))
 unfolding rows
 rowAt-slot h i [] s b q = absurd (omega arith)
@@ -74,10 +71,16 @@ rowAt-slot h zero (e ∷ l) s b q = rowAt-head h (rowMeant e) (rowsMeant l) (eq-
 rowAt-slot h (suc i) (e ∷ l) s b q =
     rowAt-skip h (rowMeant e) (rowsMeant l) (head-other h i s (omega arith) q) ∙ rowAt-slot h i l (tail-sorted s) (omega arith) q
 
-pub rowAt-absent : (h : ℕ) (l : List Slot) → Absent h l → rowAt h (rowsMeant l) ≡ none
+rowAt-absent : (h : ℕ) (l : List Slot) → Absent h l → rowAt h (rowsMeant l) ≡ none
 unfolding rows
 rowAt-absent h [] a = rowAt-none h
 rowAt-absent h (e ∷ l) a = rowAt-skip h (rowMeant e) (rowsMeant l) (absent-head a) ∙ rowAt-absent h l (absent-tail a)
+
+pub rowAt-found : (h : ℕ) (l : List Slot) {i : ℕ} → Sorted l → findIn h l ≡ At i → rowAt h (rowsMeant l) ≡ some (rowMeant (getD l i blank))
+rowAt-found h l {i} s f = let a = find-at h l f in rowAt-slot h i l s (a .0) (a .1)
+
+pub rowAt-nowhere : (h : ℕ) (l : List Slot) → Sorted l → findIn h l ≡ Nothing → rowAt h (rowsMeant l) ≡ none
+rowAt-nowhere h l s f = rowAt-absent h l (find-nothing h l s f)
 
 -- a place at which a row stands
 pub record Place (h : ℕ) (l : List Slot) (r : Row) : Type 0 where
@@ -86,6 +89,10 @@ pub record Place (h : ℕ) (l : List Slot) (r : Row) : Type 0 where
   pub below : at < length l
   pub handle : getD l at blank .handle ≡ h
   pub means : rowMeant (getD l at blank) ≡ r
+
+pub rows-length : (l : List Slot) → length (rowsMeant l) ≡ length l
+unfolding rowsMeant
+rows-length l = length-map l rowMeant
 
 -- ---- A push, a removal, a store
 
@@ -134,14 +141,11 @@ module _ {start : Image} {s : State} {xs : List ℕ} {active : List Bool} (reach
   pub found-row : (h : ℕ) {i : ℕ} → findIn h (tableAt xs LIVE) ≡ At i
       → rowAt h (s .image .rows) ≡ some (rowMeant (getD (tableAt xs LIVE) i blank))
   unfolding liveRows
-  found-row h {i} f =
-      let a = find-at h (tableAt xs LIVE) f in
-      ap (rowAt h) (sym (p .rows)) ∙ rowAt-slot h i (tableAt xs LIVE) live-sorted (a .0) (a .1)
+  found-row h f = ap (rowAt h) (sym (p .rows)) ∙ rowAt-found h (tableAt xs LIVE) live-sorted f
 
   pub missing-row : (h : ℕ) → findIn h (tableAt xs LIVE) ≡ Nothing → rowAt h (s .image .rows) ≡ none
   unfolding liveRows
-  missing-row h f =
-      ap (rowAt h) (sym (p .rows)) ∙ rowAt-absent h (tableAt xs LIVE) (find-nothing h (tableAt xs LIVE) live-sorted f)
+  missing-row h f = ap (rowAt h) (sym (p .rows)) ∙ rowAt-nowhere h (tableAt xs LIVE) live-sorted f
 
   pub row-found : (h : ℕ) {r : Row} → rowAt h (s .image .rows) ≡ some r → Place h (tableAt xs LIVE) r
   row-found h {r} q = go (findIn h (tableAt xs LIVE)) refl

@@ -6,7 +6,7 @@ use mathlib.Core.List.{List, []}
 use Prim.Native.Nat.{ℕ, _≤_, _<_}
 use native.Mathlib.Omega.{arith}
 use lib.Dec.{eqb, ltb}
-use lib.ListN.{length, getD, set, replicate, List·getD-eq-default, getD-replicate, length-replicate, length-set}
+use lib.ListN.{length, getD, set, replicate, length-set}
 use lib.Seq.{drop-length, getD-set-same, getD-set-other, set-out}
 use borrow.Author.Tests.{eqb-true, eqb-false, ltb-true, ltb-false}
 use Rattle.meaning.specs.Covers.{Rule, Image}
@@ -15,12 +15,12 @@ use Rattle.meaning.specs.Processing.{State, since, waits, moved, afterLog}
 use Rattle.meaning.proofs.Made.{Sound, Made.none as noneMade}
 use Rattle.meaning.proofs.NetEffects.{netEffect-none}
 use Rattle.words.specs.Words.{Bytes, word32At}
-use Rattle.slots.specs.Slots.{tableAt, tableBytes, Frame}
-use Rattle.slots.proofs.Frames.{word-kept-below}
-use Rattle.slots.proofs.Tables.{table-kept-below}
-use Rattle.room.specs.Room.{NEXT, LIVE, INSERTED, ROWS, waitAt, Laid, Kept, rowsMeant, waitMeant, liveRows, waitsIn}
+use Rattle.words.proofs.Laws.{all-same}
+use Rattle.slots.specs.Slots.{tableAt}
+use Rattle.room.specs.Room.{NEXT, waitAt, Laid, waitMeant, liveRows, waitsIn}
 use Rattle.room.specs.Drawn.{Drew}
 use Rattle.room.specs.Represents.{Represents, Reached, madeAll}
+use Rattle.room.proofs.Kept.{word-kept, live-kept}
 
 -- ---- A mark is moved
 
@@ -72,30 +72,18 @@ seen-other s k j e = rw (getD-set-other (s .marks) k j (length (s .done)) 0 (eqb
 
 -- ---- The room after a drawing
 
-kept-frame : {hi : ℕ} {xs ys : List ℕ} → Kept 0 hi xs ys → Frame hi (length xs) xs ys
-kept-frame {hi} {xs} {ys} k =
-    record {
-      len = k .len;
-      below = λ i h. k .same i (omega arith) h;
-      above = λ i h.
-          List·getD-eq-default ys 0 {n = i} (omega (arith, k .len)) ∙ sym (List·getD-eq-default xs 0 {n = i} h);
-    }
-
 pub drew : {s : State} {xs ys : List ℕ} {active : List Bool} {k : ℕ} {rule : Rule} → Represents xs active s → Drew xs ys k rule → Bytes ys
     → k < length (s .marks) → Represents ys active (seen s k)
-unfolding seen liveRows waitsIn waitMeant tableBytes
+unfolding seen waitsIn waitMeant
 drew {s} {xs} {ys} {active} {k} p d bytes mark =
     record {
       laid = d .laid;
       bytes = bytes;
-      next = word-kept-below f NEXT (omega arith) ∙ p .next;
-      rows = ap rowsMeant (table-kept-below f LIVE ROWS (p .laid .live) (omega arith)) ∙ p .rows;
+      next = word-kept (d .before) NEXT (omega arith) (omega arith) ∙ p .next;
+      rows = live-kept (d .before) (p .laid) (omega arith) (omega arith) ∙ p .rows;
       waiting = λ j b a. go j b a (eqb j k) refl;
     }
   where
-    f : Frame INSERTED (length xs) xs ys
-    f = kept-frame (d .before)
-
     go : (j : ℕ) → j < 16 → getD active j false ≡ true → (t : Bool) → eqb j k ≡ t → waitsIn ys j ≡ waits (seen s k) j
     go j b a true e = rw (eqb-true j k e, d .emptied) (sym (seen-none s k mark))
     go j b a false e = ap waitMeant (d .others j b (eqb-false j k e)) ∙ p .waiting j b a ∙ sym (seen-other s k j e)
@@ -111,17 +99,10 @@ pub starting-log : (rules : List Rule) (order : List ℕ) (start : Image) (os : 
 unfolding starting madeAll afterLog
 starting-log rules order start os = refl
 
-all-same : (n k a : ℕ) → getD (replicate n a) k a ≡ a
-all-same n k a = go (ltb k n) refl
-  where
-    go : (t : Bool) → ltb k n ≡ t → getD (replicate n a) k a ≡ a
-    go true e = getD-replicate n k a a (ltb-true k n e)
-    go false e = List·getD-eq-default (replicate n a) a {n = k} (omega (arith, ltb-false k n e, length-replicate n a))
-
 pub reached-starting : (rules : List Rule) {start : Image} → Sound start → Reached start (starting rules start)
 unfolding starting makeAll
 reached-starting rules s =
-    record { sound = s; made = noneMade; image = refl; marked = λ k. rw (all-same (length rules) k 0) (omega arith) }
+    record { sound = s; made = noneMade; image = refl; marked = λ k. rw (all-same {A = ℕ} (length rules) k 0) (omega arith) }
 
 pub represents-starting : (rules : List Rule) {start : Image} {xs : List ℕ} {active : List Bool} → Laid xs → Bytes xs
     → word32At xs NEXT ≡ start .next → liveRows xs ≡ start .rows
@@ -134,5 +115,5 @@ represents-starting rules {start} laid bytes next rows empty =
       bytes = bytes;
       next = next;
       rows = rows;
-      waiting = λ k b a. rw (empty k b a, all-same (length rules) k 0) (sym netEffect-none);
+      waiting = λ k b a. rw (empty k b a, all-same {A = ℕ} (length rules) k 0) (sym netEffect-none);
     }

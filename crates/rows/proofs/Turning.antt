@@ -16,11 +16,12 @@ use Rattle.slots.specs.declared.Found.{Found}
 use Rattle.slots.specs.declared.Found.the-variants.{At}
 use Rattle.slots.specs.Slots.{tableAt, tableBytes, Frame, Stands, Holds, blank, removeAt, findIn}
 use Rattle.slots.proofs.Frames.{frame-wider, frame-join, word-kept-below, PutWord}
-use Rattle.slots.proofs.Tables.{table-length, table-kept-below, table-kept-above, stands-kept-below, stands-kept-above}
+use Rattle.slots.proofs.Tables.{table-length, table-kept-below, table-kept-above, stands-kept-above}
 use Rattle.slots.proofs.Order.{find-at}
 use Rattle.room.specs.Room.{NEXT, LIVE, INSERTED, ROWS, waitAt, Laid}
 use Rattle.room.specs.Joins.{asEffect, joinIf, Joinable, AllJoined}
 use Rattle.room.specs.Turned.{Turned}
+use Rattle.room.proofs.Kept.{laid-front, laid-behind}
 use Rattle.rows.specs.declared.Looked.the-variants.{Made}
 use Rattle.rows.specs.declared.Space.the-variants.{Enough, Full, UsedUp}
 use Rattle.rows.specs.Rows.{spaceFor, rowOf, insertedSlot, operationAt, Inserted, CanJoin, Deleted, Updated}
@@ -57,18 +58,7 @@ front-numbered f p =
 module _ {xs ys : List ℕ} {live : List Slot} {n : ℕ} (f : Front xs ys live n) where
   -- every table behind it stands as it did
   pub front-laid : Laid xs → Laid ys
-  front-laid l =
-      record {
-        long = rw (f .frame .len) (l .long);
-        live = f .stands;
-        inserted = stands-kept-above (f .frame) _ _ (l .inserted) (omega arith);
-        deleted = stands-kept-above (f .frame) _ _ (l .deleted) (omega arith);
-        new = stands-kept-above (f .frame) _ _ (l .new) (omega arith);
-        old = stands-kept-above (f .frame) _ _ (l .old) (omega arith);
-        chosen = stands-kept-above (f .frame) _ _ (l .chosen) (omega arith);
-        worked = stands-kept-above (f .frame) _ _ (l .worked) (omega arith);
-        waits = λ k h. stands-kept-above (f .frame) _ _ (l .waits k h) (omega arith);
-      }
+  front-laid l = laid-front l (f .frame) (f .stands)
 
   front-waits : Laid xs → (k : ℕ) → k < 16 → tableAt ys (waitAt k) ≡ tableAt xs (waitAt k)
   front-waits l k h = table-kept-above (f .frame) (waitAt k) 128 (l .waits k h) (omega arith)
@@ -85,19 +75,7 @@ module _ {xs ys : List ℕ} {live : List Slot} {n : ℕ} (f : Front xs ys live n
 
 -- the tables in front of it stand as they did
 pub joined-laid : {xs ys : List ℕ} {active : List Bool} {op : Slot} → Laid xs → AllJoined xs ys active op → Laid ys
-unfolding tableBytes
-joined-laid l a =
-    record {
-      long = rw (a .frame .len) (l .long);
-      live = stands-kept-below (a .frame) _ _ (l .live) (omega arith);
-      inserted = stands-kept-below (a .frame) _ _ (l .inserted) (omega arith);
-      deleted = stands-kept-below (a .frame) _ _ (l .deleted) (omega arith);
-      new = stands-kept-below (a .frame) _ _ (l .new) (omega arith);
-      old = stands-kept-below (a .frame) _ _ (l .old) (omega arith);
-      chosen = stands-kept-below (a .frame) _ _ (l .chosen) (omega arith);
-      worked = stands-kept-below (a .frame) _ _ (l .worked) (omega arith);
-      waits = a .stands;
-    }
+joined-laid l a = laid-behind l (a .frame) (a .stands)
 
 -- both
 pub front-turned : {xs ys zs : List ℕ} {active : List Bool} {live : List Slot} {n : ℕ} {op : Slot} → Laid xs → Front xs ys live n

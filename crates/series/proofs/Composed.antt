@@ -13,13 +13,13 @@ use Rattle.meaning.proofs.Made.{Sound, Made}
 use Rattle.meaning.proofs.ActionsFit.{Breaks, MadeOf, wentMade, endsMade}
 use Rattle.room.specs.Room.{transitionIn}
 use Rattle.room.specs.Represents.{Represents, Reached, Running, madeAll}
+use Rattle.room.proofs.Kept.{kept-refl, kept-trans}
 use Rattle.room.proofs.Live.{reached-sound}
 use Rattle.room.proofs.Steps.{madeAll-none, madeAll-append, reached-all}
 use Rattle.changes.specs.declared.Reason.{Reason}
 use Rattle.changes.specs.declared.Step.{Step}
 use Rattle.changes.specs.declared.Step.the-variants.{Went, RolledBack, Failed}
 use Rattle.changes.specs.Steps.{Follows, goesOn, rollsBack, fails, Acts}
-use Rattle.changes.proofs.Keeping.{kept-refl, kept-trans}
 
 -- ---- What a step makes
 

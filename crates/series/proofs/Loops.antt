@@ -10,18 +10,17 @@ use Rattle.meaning.specs.ByteLayouts.{operation, action}
 use Rattle.meaning.specs.Processing.{runLog, runActions}
 use Rattle.meaning.specs.Processing.Actions.{Result, went, andThen, operate, perform}
 use Rattle.meaning.specs.Processing.TransitionTables.{Transition}
-use Rattle.meaning.proofs.ActionsFit.{operate-made}
-use Rattle.meaning.proofs.StepsFit.{runLog-made}
+use Rattle.meaning.proofs.ActionsFit.{operate-made, perform-made, RangedTables}
+use Rattle.meaning.proofs.StepsFit.{runLog-made, runActions-made}
+use Rattle.meaning.proofs.RunsFit.{operation-gives, action-gives}
 use Rattle.words.specs.Words.{readable}
-use Rattle.words.proofs.Laws.{readable-none, readable-bad, readable-more}
+use Rattle.words.proofs.Laws.{readable-none, readable-bad, readable-more, readable-each}
 use Rattle.book.specs.declared.Actions.{Actions}
 use Rattle.book.specs.Books.{actionsMeant}
 use Rattle.room.specs.Represents.{Running}
 use Rattle.changes.specs.declared.Step.{Step}
 use Rattle.changes.specs.declared.Step.the-variants.{Went}
 use Rattle.changes.specs.Steps.{Acts}
-use Rattle.series.proofs.Parsed.{readable-each, operation-sound, action-sound}
-use Rattle.series.proofs.Ranged.{RangedTables, perform-ranged, runActions-ranged}
 use Rattle.series.proofs.Composed.{Makes, Onward, onward-start, onward-done, onward-more, onward-ends, Ends}
 
 -- ---- Things run in order
@@ -75,22 +74,20 @@ module _ {A : Type 0} {p : Parser A} {step : A → Image → Result} {run : List
 
 module _ (s : List ℕ) (at : ℕ) {q : LogOperation} {next : ℕ} (e : operation s at ≡ got q next) where
   pub operation-makes : Makes (operate q)
-  operation-makes = record { fit = λ m sound. operate-made q m (operation-sound s at q next e .good) sound }
+  operation-makes = record { fit = λ m sound. operate-made q m (operation-gives .fit e) sound }
 
 module _ {t : Transition} (tables : RangedTables t) (triggers : ℕ) (s : List ℕ) (at : ℕ) {a : Action} {next : ℕ}
     (e : action triggers s at ≡ got a next) where
   pub action-makes : Makes (perform t a)
-  action-makes = record { fit = λ m sound. perform-ranged t a m tables (action-sound triggers s at a next e .good) sound }
+  action-makes = record { fit = λ m sound. perform-made t a m tables (action-gives triggers .fit e) sound }
 
 pub log-makes : (s : List ℕ) (count at : ℕ) → Makes (runLog (readable count operation s at))
 log-makes s count at =
-    let good = readable-each operation (λ s at q next e. operation-sound s at q next e .good) count s at in
-    record { fit = λ m sound. runLog-made (readable count operation s at) m good sound }
+    record { fit = λ m sound. runLog-made (readable count operation s at) m (readable-each operation-gives count s at) sound }
 
 pub actions-make : {t : Transition} → RangedTables t → (s : List ℕ) (triggers : ℕ) (a : Actions)
     → Makes (runActions t (actionsMeant s triggers a))
 unfolding actionsMeant
 actions-make {t} tables s triggers a =
-    let good =
-    readable-each (action triggers) (λ s at b next e. action-sound triggers s at b next e .good) (a .count) s (a .first) in
-    record { fit = λ m sound. runActions-ranged t (readable (a .count) (action triggers) s (a .first)) m tables good sound }
+    let good = readable-each (action-gives triggers) (a .count) s (a .first) in
+    record { fit = λ m sound. runActions-made t (readable (a .count) (action triggers) s (a .first)) m tables good sound }

@@ -103,7 +103,7 @@ find-at h l {i} f = by (ltb p (length l)) refl (eqb (getD l p blank .handle) h) 
     by true a false b g = absurd (let z : _≡_ {A = ℕ} 0 1 = cc in omega arith)
     by false a u b g = absurd (let z : _≡_ {A = ℕ} 0 1 = cc in omega arith)
 
-strict : (m n : ℕ) → m ≤ n → (n ≡ m → ⊥) → m < n
+pub strict : (m n : ℕ) → m ≤ n → (n ≡ m → ⊥) → m < n
 strict m n h d = ⊎-elim (λ (q : m ≡ n). absurd (d (sym q))) (λ (q : m < n). q) (eq-or-lt-of-le h)
 
 -- a handle that is not at its place is nowhere
@@ -170,7 +170,7 @@ over-cons {b} {x} {l} h o = record { each = go }
 head-over : {x : Slot} {l : List Slot} → Sorted (x ∷ l) → Over (x .handle) l
 head-over s = record { each = λ j h. s .rises 0 (suc j) (omega arith) (omega arith) }
 
-tail-sorted : {x : Slot} {l : List Slot} → Sorted (x ∷ l) → Sorted l
+pub tail-sorted : {x : Slot} {l : List Slot} → Sorted (x ∷ l) → Sorted l
 tail-sorted s = record { rises = λ i j h b. s .rises (suc i) (suc j) (omega arith) (omega arith) }
 
 cons-sorted : {x : Slot} {l : List Slot} → Over (x .handle) l → Sorted l → Sorted (x ∷ l)

@@ -20,10 +20,11 @@ use Rattle.words.specs.Words.{Bytes, word32At}
 use Rattle.slots.specs.Slots.{Stands}
 use Rattle.room.specs.Room.{NEXT, LIVE, END, ROWS, Kept, liveRows}
 use Rattle.room.specs.Represents.{Represents}
-use Rattle.room.proofs.Marks.{starting, represents-starting}
-use Rattle.changes.proofs.Keeping.{kept-trans}
+use Rattle.room.proofs.Kept.{kept-trans}
+use Rattle.room.proofs.Marks.{starting}
 use Rattle.plan.specs.Plans.{rulesIn}
 use Rattle.loading.specs.Loads.{Loads}
+use Rattle.loading.proofs.Started.{loaded-represents}
 use Rattle.processing.specs.declared.Outcome.{Outcome}
 use Rattle.processing.specs.declared.Outcome.the-variants.{Commit, RolledBack, StepLimit, Failed}
 use Rattle.processing.specs.declared.Ended.{Ended}
@@ -67,9 +68,7 @@ module _ {image book : List ℕ} {a : Accepted} (ok : Accepts image book a) wher
   module _ {xs ys : List ℕ} (loads : Loads image xs ys) (bytes : Bytes ys) where
     represents-start : (start : Image) → readAll ByteLayouts.image image ≡ some start
         → Represents ys (a .plan .active) (starting (rulesIn book (a .plan .count)) start)
-    represents-start start e =
-        let l = loads .is start e in
-        represents-starting (rulesIn book (a .plan .count)) (l .laid) bytes (l .next) (l .rows) (λ k b active. l .empty k b)
+    represents-start start e = loaded-represents (rulesIn book (a .plan .count)) (loads .is start e) bytes
 
     pub starts : Starts ys (a .plan .active) (rulesIn book (a .plan .count))
     unfolding startImage

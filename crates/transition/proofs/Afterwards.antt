@@ -1,39 +1,13 @@
--- What `draw` leaves, for its callers: what is kept up to a place is a frame from that place on, so the next handle and the live rows stay;
--- and the transition tables of what a rule looks out for are the rule's own, as they ask for its table and its columns alone.
-use mathlib.Core.Path.{_≡_, refl, sym, _∙_}
+-- The transition tables of what a rule looks out for are the rule's own, as they ask for its table and its columns alone.
+use mathlib.Core.Path.{_≡_, refl}
 use mathlib.Core.List.{List}
 use Prim.Native.Nat.{ℕ}
-use native.Mathlib.Omega.{arith}
-use lib.ListN.{length, List·getD-eq-default}
 use Rattle.meaning.specs.Base.{gather}
 use Rattle.meaning.specs.Covers.{Row, Rule}
 use Rattle.meaning.specs.RowOperations.{Effect, NetEffect, nothing, inserted, deleted, updated}
 use Rattle.meaning.specs.Processing.TransitionTables.{meets, ownTable, ownRow, liveRow, insertedRow, deletedRow, newRow, oldRow, transition}
-use Rattle.words.specs.Words.{word32At}
-use Rattle.slots.specs.Slots.{tableAt, tableBytes, Frame}
-use Rattle.slots.proofs.Frames.{word-kept-below}
-use Rattle.slots.proofs.Tables.{table-kept-below}
 use Rattle.room.specs.declared.Watch.{Watch}
-use Rattle.room.specs.Room.{NEXT, LIVE, ROWS, Laid, Kept, watchRule}
-use Rattle.room.specs.Drawn.{Drew}
-
-pub kept-frame : {hi : ℕ} {xs ys : List ℕ} → Kept 0 hi xs ys → Frame hi (length xs) xs ys
-kept-frame {hi} {xs} {ys} k =
-    record {
-      len = k .len;
-      below = λ i h. k .same i (omega arith) h;
-      above = λ i h. List·getD-eq-default ys 0 (rw (k .len) h) ∙ sym (List·getD-eq-default xs 0 h);
-    }
-
-module _ {xs ys : List ℕ} {k : ℕ} {rule : Rule} (d : Drew xs ys k rule) where
-  pub drew-next : word32At ys NEXT ≡ word32At xs NEXT
-  drew-next = word-kept-below (kept-frame (d .before)) NEXT (omega arith)
-
-  pub drew-live : Laid xs → tableAt ys LIVE ≡ tableAt xs LIVE
-  unfolding tableBytes
-  drew-live w = table-kept-below (kept-frame (d .before)) LIVE ROWS (w .live) (omega arith)
-
--- ---- A rule, and what it looks out for
+use Rattle.room.specs.Room.{watchRule}
 
 module _ (w : Watch) (rule : Rule) (t : w .table ≡ rule .table) (c : w .columns ≡ rule .columns) where
   own-watch : ownRow (watchRule w) ≡ ownRow rule

@@ -1,11 +1,10 @@
 -- The loop of `draw`, of the slots alone: what the four tables show so far, and then what the effects that are left show there, is what
 -- all of them show. So each table is at every turn no longer than at the end, and has room for one row more.
 use mathlib.Core.Path.{_≡_, refl, sym, ap, _∙_}
-use mathlib.Core.Logic.{_≢_, ⊎-elim}
+use mathlib.Core.Logic.{_≢_}
 use mathlib.Core.List.{List, [], _∷_, _++_, append-nil, append-assoc, map}
 use mathlib.Core.Option.{Option, none, some}
 use Prim.Native.Nat.{ℕ, suc, _+_, _-_, _≤_, _<_}
-use native.Mathlib.Nat.{eq-or-lt-of-le}
 use native.Mathlib.Omega.{arith}
 use borrow.Author.Tests.{ltb-true, ltb-false, eqb-true, eqb-false}
 use lib.Dec.{eqb, ltb}
@@ -23,10 +22,10 @@ use Rattle.slots.proofs.Tables.{table-length, table-kept-below, table-kept-abov
 use Rattle.room.specs.Room.{LIVE, INSERTED, DELETED, NEW, OLD, CHOSEN, WORKED, END, ROWS, ENTRIES, waitAt, Laid}
 use Rattle.room.specs.Room.{rowsMeant, entryMeant, waitMeant, liveRows, transitionIn, waitsIn}
 use Rattle.room.specs.Drawn.{drawnFor, Few, Drew}
+use Rattle.slots.proofs.Order.{strict}
+use Rattle.room.proofs.Live.{rows-length}
+use Rattle.room.proofs.Kept.{kept-below, kept-above, transition-kept, laid-behind}
 use Rattle.transition.specs.Shown.{RoomFor, Grown, Live, insertedOf, deletedOf, newOf, oldOf, Ready, Shown, Bare, Emptied}
-
-strict : (k j : ℕ) → k ≤ j → j ≢ k → k < j
-strict k j h n = ⊎-elim (λ (q : k ≡ j). absurd (n (sym q))) (λ (q : k < j). q) (eq-or-lt-of-le h)
 
 -- ---- Emptying
 
@@ -114,11 +113,6 @@ pub record Part (f : Slot → Option Row) (base : ℕ) (l : List Slot) (x : List
 before-more : {A : Type 0} (o : Option A) (r : List A) → before o r ≡ before o [] ++ r
 before-more none r = refl
 before-more (some a) r = refl
-
-rows-length : (l : List Slot) → length (rowsMeant l) ≡ length l
-unfolding rowsMeant
-rows-length [] = refl
-rows-length (e ∷ l) = ap suc (rows-length l)
 
 module _ {f : Slot → Option Row} {base : ℕ} {l : List Slot} {x : List ℕ} where
   part-start : Bare base x → Part f base l x 0
@@ -274,14 +268,7 @@ module _ {rule : Rule} {x0 x : List ℕ} (k n left : ℕ) (d : Drawing rule k x0
 
 module _ {x y : List ℕ} (k : ℕ) (w : Laid x) (b : k < 16) (h : Holds (waitAt k) ENTRIES x y []) where
   tables-kept : transitionIn y ≡ transitionIn x
-  unfolding transitionIn tableBytes
-  tables-kept =
-      rw (
-        table-kept-below (h .frame) INSERTED ROWS (w .inserted) (omega arith),
-        table-kept-below (h .frame) DELETED ROWS (w .deleted) (omega arith),
-        table-kept-below (h .frame) NEW ROWS (w .new) (omega arith),
-        table-kept-below (h .frame) OLD ROWS (w .old) (omega arith),
-      )
+  tables-kept = transition-kept (kept-below (h .frame)) w (omega arith) (omega arith)
 
   others-kept : (j : ℕ) → j < 16 → j ≢ k → tableAt y (waitAt j) ≡ tableAt x (waitAt j)
   unfolding tableBytes
@@ -306,18 +293,7 @@ module _ {x y : List ℕ} (k : ℕ) (w : Laid x) (b : k < 16) (h : Holds (waitAt
 
   laid-after : Laid y
   unfolding tableBytes
-  laid-after =
-      record {
-        long = rw (h .frame .len) (w .long);
-        live = stands-kept-below (h .frame) LIVE ROWS (w .live) (omega arith);
-        inserted = stands-kept-below (h .frame) INSERTED ROWS (w .inserted) (omega arith);
-        deleted = stands-kept-below (h .frame) DELETED ROWS (w .deleted) (omega arith);
-        new = stands-kept-below (h .frame) NEW ROWS (w .new) (omega arith);
-        old = stands-kept-below (h .frame) OLD ROWS (w .old) (omega arith);
-        chosen = stands-kept-below (h .frame) CHOSEN ROWS (w .chosen) (omega arith);
-        worked = stands-kept-below (h .frame) WORKED ROWS (w .worked) (omega arith);
-        waits = waits-stand;
-      }
+  laid-after = laid-behind w (frame-wider (h .frame) (omega arith) (omega arith)) waits-stand
 
 pub draw-done : {rule : Rule} {xs x0 x y : List ℕ} (k n left : ℕ) → Laid xs → Emptied xs x0
     → Drawing rule k x0 x n left → left ≤ 0 → Holds (waitAt k) ENTRIES x y [] → Drew xs y k rule
@@ -332,6 +308,6 @@ draw-done {rule} {xs} {x0} {x} {y} k n left w e d z h =
       tables = tables-kept k wx b h ∙ draw-tables k n left d z ∙ drawn-kept w (e .frame) k rule b;
       emptied = h .list;
       others = λ j m q. others-kept k wx b h j m q ∙ wait-kept w f j m;
-      before = record { len = g .len; same = λ i lo hi. g .below i hi };
-      beyond = record { len = g .len; same = λ i lo hi. g .above i lo };
+      before = kept-below g;
+      beyond = kept-above g;
     }

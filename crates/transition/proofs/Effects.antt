@@ -20,14 +20,10 @@ use Rattle.slots.proofs.Frames.{frame-refl, frame-wider, frame-join, word-kept-
 use Rattle.slots.proofs.Tables.{table-kept-below, table-kept-above, stands-kept-below, stands-kept-above}
 use Rattle.room.specs.declared.Watch.{Watch}
 use Rattle.room.specs.Room.{INSERTED, DELETED, NEW, OLD, CHOSEN, ROWS, watchRule, rowMeant, rowsMeant, effectMeant, liveRows}
+use Rattle.room.proofs.Live.{rows-pushed}
 use Rattle.transition.specs.Shown.{RoomFor, Grown, Added, insertedOf, deletedOf, newOf, oldOf, Ready, Shown}
 
 -- ---- One table
-
-pub rows-push : (l : List Slot) (e : Slot) → rowsMeant (l ++ (e ∷ [])) ≡ rowsMeant l ++ (rowMeant e ∷ [])
-unfolding rowsMeant
-rows-push [] e = refl
-rows-push (x ∷ l) e = ap (λ (r : List Row). rowMeant x ∷ r) (rows-push l e)
 
 pub same-grown : {base : ℕ} {xs ys : List ℕ} → Stands base ROWS ys → tableAt ys base ≡ tableAt xs base → Grown base xs ys none
 same-grown {base} {xs} {ys} s q = record { stands = s; rows = ap rowsMeant q ∙ sym (append-nil (rowsMeant (tableAt xs base))) }
@@ -40,7 +36,7 @@ module _ {base : ℕ} {xs : List ℕ} where
   row-added e h =
       record {
         frame = h .frame;
-        grown = record { stands = h .stands; rows = ap rowsMeant (h .list) ∙ rows-push (tableAt xs base) e };
+        grown = record { stands = h .stands; rows = ap rowsMeant (h .list) ∙ rows-pushed (tableAt xs base) e };
       }
 
 -- the row in a slot, where it is of the rule's own table, and where it is of another

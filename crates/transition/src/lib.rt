@@ -12,12 +12,6 @@ use room::Watch;
 use slots::Found;
 use slots::Slot;
 
-fn wide(x: u8) -> usize
-    ensures { λ r. ⌜ r ≡ x ⌝ }
-{
-    x as usize
-}
-
 // The live row with a handle, if it is of the rule's own table, joins a transition table.
 fn draw_live(room: &mut [u8], base: usize, rule: Watch, handle: u32)
     requires { ⌜ Live (now room) ⌝ }
@@ -37,7 +31,7 @@ fn draw_held(room: &mut [u8], base: usize, rule: Watch, e: Slot)
     requires { ⌜ RoomFor base (now room) (ownRow (watchRule rule) (rowMeant e)) ⌝ }
     ensures { λ _. ⌜ Added base (now (room .entry)) (now (room .exit)) (ownRow (watchRule rule) (rowMeant e)) ⌝ }
 {
-    if wide(e.table) == rule.table {
+    if words::wide(e.table) == rule.table {
         slots::push(room, base, room::ROWS, e);
     }
 }
@@ -49,7 +43,7 @@ fn draw_updated(room: &mut [u8], rule: Watch, e: Slot)
     requires { ⌜ Ready (watchRule rule) e (now room) ⌝ }
     ensures { λ _. ⌜ Shown (watchRule rule) e (now (room .entry)) (now (room .exit)) ⌝ }
 {
-    if words::meet(wide(e.mask), rule.columns) {
+    if words::meet(words::wide(e.mask), rule.columns) {
         draw_live(room, room::NEW, rule, e.handle);
         draw_held(room, room::OLD, rule, e);
     }
@@ -71,7 +65,7 @@ fn draw_one(room: &mut [u8], rule: Watch, e: Slot)
 }
 
 // The four transition tables have no row any more.
-fn empty_tables(room: &mut [u8])
+pub fn empty_tables(room: &mut [u8])
     requires { ⌜ END ≤ length (now room) ⌝ }
     ensures { λ _. ⌜ Emptied (now (room .entry)) (now (room .exit)) ⌝ }
 {

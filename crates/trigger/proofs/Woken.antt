@@ -4,10 +4,8 @@ use mathlib.Core.Path.{_≡_, refl, sym, ap, _∙_}
 use mathlib.Core.Bool.{Bool, true, false, _&&_}
 use mathlib.Core.List.{List}
 use Prim.Native.Nat.{ℕ, _<_}
-use native.Mathlib.Omega.{arith}
 use lib.ListN.{getD}
 use Rattle.meaning.specs.Base.{any}
-use Rattle.meaning.specs.Reading.{Read, bad, got}
 use Rattle.meaning.specs.Covers.{Rule}
 use Rattle.meaning.specs.ByteLayouts as ByteLayouts
 use Rattle.meaning.specs.RowOperations.{Effect, NetEffect, nothing, inserted, deleted, updated}
@@ -19,6 +17,7 @@ use Rattle.book.specs.declared.RuleRead.the-variants as ruleRead
 use Rattle.book.specs.Books.{ruleOr, ruleMeant, ruleOf}
 use Rattle.plan.specs.declared.Plan.{Plan}
 use Rattle.plan.specs.Plans.{Placed}
+use Rattle.plan.proofs.Listed.{read-listed}
 use Rattle.room.specs.declared.Watch.{Watch}
 use Rattle.room.specs.Room.{watchRule, waitsIn}
 use Rattle.trigger.specs.Triggers.{Triggers}
@@ -42,19 +41,12 @@ any-same : (r : Rule) (w : Watch) → WatchOf r w → (es : NetEffect)
     → any (λ p. wakes (watchRule w) (p .1)) es ≡ any (λ p. wakes r (p .1)) es
 any-same r w a es = λ i. any (λ p. wakes-same r w a (p .1) i) es
 
--- ---- The rule that is read is the rule that is listed
-
-abbrev rule-of : Rule → Read Rule → Rule
-rule-of other bad = other
-rule-of other (got r next) = r
-
-watched : (s : List ℕ) (r : Rule) (next : ℕ) {read : RuleRead} {rule : RuleStood} {after : ℕ} (w : Watch)
-    → ruleOr s read ≡ got r next → read ≡ ruleRead.Is rule after
+-- the rule that is read is the one that is listed
+watched : (s : List ℕ) {r : Rule} (rule : RuleStood) (w : Watch) → ruleMeant s rule ≡ r
     → (w .table ≡ rule .head .table) × (w .triggers ≡ rule .head .triggers) × (w .columns ≡ rule .head .columns)
     → WatchOf r w
-unfolding ruleOr ruleMeant ruleOf
-watched s r next {read} {rule} {after} w e is made =
-    let same : ruleMeant s rule ≡ r = ap (rule-of r) (ap (ruleOr s) (sym is) ∙ e) in
+unfolding ruleMeant ruleOf
+watched s rule w same made =
     record {
       table = made .0 ∙ ap (λ (x : Rule). x .table) same;
       triggers = made .1 ∙ ap (λ (x : Rule). x .triggers) same;
@@ -77,9 +69,9 @@ module _ (xs : List ℕ) {s : List ℕ} {plan : Plan} (k : ℕ) (here : Placed s
       → (w .table ≡ rule .head .table) × (w .triggers ≡ rule .head .triggers) × (w .columns ≡ rule .head .columns)
       → r ≡ any (λ p. wakes (watchRule w) (p .1)) (waitsIn xs k) → Triggers xs s plan k r
   unfolding triggered
-  read-and-woken w {r} low on e is made asked =
+  read-and-woken {rule = rule} w {r} low on e is made asked =
       let runs : here .rule .active ≡ true = sym (here .is) ∙ on in
-      let of = watched s (here .rule) (here .next) w (e ∙ here .read) is made in
+      let of = watched s rule w (read-listed here e is) made in
       record {
         is = λ state rep.
             rw (here .listed)
@@ -88,11 +80,3 @@ module _ (xs : List ℕ) {s : List ℕ} {plan : Plan} (k : ℕ) (here : Placed s
             ∙ ap (any (λ p. wakes (here .rule) (p .1))) (rep .waiting k low on)
             ∙ ap (λ (t : Bool). t && any (λ p. wakes (here .rule) (p .1)) (waits state k)) (sym runs));
       }
-
-  -- a rule of the plan can be read
-  pub not-read : {read : RuleRead} {r : Bool} → ruleOr s read ≡ ByteLayouts.rule (plan .count) s (getD (plan .starts) k 0)
-      → read ≡ ruleRead.Bad → Triggers xs s plan k r
-  unfolding ruleOr
-  not-read e is =
-      let none-read : bad ≡ got (here .rule) (here .next) = ap (ruleOr s) (sym is) ∙ e ∙ here .read in
-      absurd (let z : _≡_ {A = ℕ} 0 1 = cc in omega arith)

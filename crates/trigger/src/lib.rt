@@ -47,12 +47,6 @@ fn is_triggered(room: &[u8], s: &[u8], plan: Plan, k: usize) -> bool
     }
 }
 
-fn wide(x: u8) -> usize
-    ensures { λ r. ⌜ r ≡ x ⌝ }
-{
-    x as usize
-}
-
 // The first triggered rule in total order.
 pub fn first_triggered(room: &[u8], s: &[u8], plan: Plan) -> Next
     requires { ⌜ Laid (now room) ⌝ }
@@ -66,7 +60,7 @@ pub fn first_triggered(room: &[u8], s: &[u8], plan: Plan) -> Next
     let n = plan.count;
     let mut left = n;
     while 0 < left {
-        let k = wide(rules[n - left]);
+        let k = words::wide(rules[n - left]);
         if is_triggered(room, s, plan, k) {
             return Next::Rule(k);
         }

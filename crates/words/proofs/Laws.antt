@@ -1,6 +1,6 @@
 -- Laws of reading and writing bytes, for decoders. A parser of the specification gives the number that stands at a place where its
 -- bytes stand in the slice, and is bad where they do not; n of them are read one by one; what was written is read again.
-use mathlib.Core.Path.{_≡_, refl, ap, _∙_}
+use mathlib.Core.Path.{_≡_, refl, sym, ap, _∙_}
 use mathlib.Core.Bool.{Bool, true, false, _&&_}
 use mathlib.Core.List.{List, [], _∷_}
 use Prim.Native.Nat.{ℕ, zero, suc, _+_, _-_, _/_, _%_, _≤_, _<_}
@@ -9,12 +9,15 @@ use native.Mathlib.Nat.{add-zero}
 use native.Mathlib.Omega.{arith}
 use borrow.Author.Tests.{le-leb, lt-leb, ltb-true, ltb-false}
 use lib.Dec.{leb, ltb}
-use lib.ListN.{length, getD, set, length-set, List·getD-eq-default}
+use lib.ListN.{length, getD, set, replicate, length-set, List·getD-eq-default}
 use lib.Seq.{sets, getD-set-same, getD-set-other}
 use Rattle.meaning.specs.Base.{if_then_else_}
 use Rattle.meaning.specs.Reading.{Read, bad, got, Parser, onFrom, byteAt, byteWithin, byte, number16, number32, many}
 use Rattle.meaning.specs.ByteLayouts.{value, bytes2, bytes4}
 use Rattle.meaning.specs.Values.{signed}
+use Rattle.meaning.proofs.Lists.{Each, noElement, anElement}
+use Rattle.meaning.proofs.Parsing.{on-from-got, same-value, same-place}
+use Rattle.meaning.proofs.RunsFit.{Gives}
 use Rattle.words.specs.Words.{Bytes, word16At, word32At, endOf, andMore, readable}
 use Rattle.words.specs.declared.End.{End}
 use Rattle.words.specs.declared.End.the-variants.{At, Short}
@@ -24,10 +27,16 @@ pub split : {P : Type 0} (t : Bool) → (t ≡ true → P) → (t ≡ false → 
 split true f g = f refl
 split false f g = g refl
 
+-- no place of a list of one value holds another, and past its end is the default
+pub all-same : {A : Type 0} (n k : ℕ) (a : A) → getD (replicate n a) k a ≡ a
+all-same zero k a = refl
+all-same (suc n) zero a = refl
+all-same (suc n) (suc k) a = all-same n k a
+
 -- ---- One byte
 
 -- within the list the default is not looked at
-getD-any : (s : List ℕ) (i d e : ℕ) → i < length s → getD s i d ≡ getD s i e
+pub getD-any : (s : List ℕ) (i d e : ℕ) → i < length s → getD s i d ≡ getD s i e
 getD-any [] i d e h = absurd (omega arith)
 getD-any (x ∷ s) zero d e h = refl
 getD-any (x ∷ s) (suc i) d e h = getD-any s i d e (omega arith)
@@ -37,12 +46,6 @@ byte-here s at h = getD-any s at 0 256 h
 
 pub byte-past : (s : List ℕ) (at : ℕ) → length s ≤ at → byteAt s at ≡ 256
 byte-past s at h = List·getD-eq-default s 256 h
-
--- what is below 256 stands in the list
-pub inside : (s : List ℕ) (at : ℕ) → byteAt s at < 256 → at < length s
-inside [] at h = absurd (omega arith)
-inside (x ∷ s) zero h = omega arith
-inside (x ∷ s) (suc at) h = omega (arith, inside s at h)
 
 pub byte-lt : (s : List ℕ) → Bytes s → (at : ℕ) → at < length s → byteAt s at < 256
 byte-lt s b at h = rw (← byte-here s at h) (b at)
@@ -141,6 +144,31 @@ module _ {A : Type 0} (p : Parser A) where
   many-more zero s at x next h e = absurd (omega arith)
   many-more (suc n) s at x next h e = simp unary-clauses (rw e)
 
+-- where n are read, the first of them, and the others after it
+pub record FirstOf {A : Type 0} (p : Parser A) (n : ℕ) (s : List ℕ) (at : ℕ) (xs : List A) (end : ℕ) : Type 0 where
+  pub first : A
+  pub next : ℕ
+  pub others : List A
+  pub read : p s at ≡ got first next
+  pub more : many (n - 1) p s next ≡ got others end
+  pub all : xs ≡ first ∷ others
+
+pub first-of : {A : Type 0} (p : Parser A) (n : ℕ) (s : List ℕ) (at : ℕ) {xs : List A} {end : ℕ} → 0 < n → many n p s at ≡ got xs end
+    → FirstOf p n s at xs end
+unfolding many
+first-of p zero s at h e = absurd (omega arith)
+first-of p (suc n) s at h e =
+    on-from-got (p s at) _ e (λ x next one rest.
+    on-from-got (many n p s next) _ rest (λ ys end two same.
+    record {
+      first = x;
+      next = next;
+      others = ys;
+      read = one;
+      more = simp unary-clauses (two ∙ ap (got ys) (same-place same));
+      all = sym (same-value same);
+    }))
+
 -- ---- Where a structure ends
 
 module _ {A : Type 0} where
@@ -231,6 +259,16 @@ module _ {A : Type 0} (p : Parser A) where
   unfolding readable andMore
   readable-more zero s at x next h e = absurd (omega arith)
   readable-more (suc n) s at x next h e = simp unary-clauses (rw e)
+
+-- each that can be read is what the parser gives
+pub readable-each : {A : Type 0} {P : A → Type 0} {p : Parser A} → Gives p P → (n : ℕ) (s : List ℕ) (at : ℕ) → Each P (readable n p s at)
+unfolding readable andMore
+readable-each g zero s at = noElement
+readable-each {A} {P} {p} g (suc n) s at = go (p s at) refl (readable-each g n s)
+  where
+    go : (r : Read A) → p s at ≡ r → ((k : ℕ) → Each P (readable n p s k)) → Each P (andMore r (readable n p s))
+    go bad e ih = noElement
+    go (got x next) e ih = anElement (g .fit e) (ih next)
 
 -- ---- Writing
 

@@ -1,6 +1,6 @@
 -- Laws of signed values as words: lifted words have the order and the sum of the values. A value plus 4294967296 is a natural number
 -- (`raised`), of which arithmetic reads order and sum; of a word it is the lifted word plus 2147483648.
-use mathlib.Core.Path.{_≡_, sym, ap, _∙_}
+use mathlib.Core.Path.{_≡_, sym, _∙_}
 use mathlib.Core.Bool.{_&&_}
 use mathlib.Core.Option.{none, some}
 use Prim.Native.Nat.{ℕ, suc, _+_, _-_, _%_, _≤_, _<_}
@@ -9,7 +9,7 @@ use borrow.Author.Tests.{lt-ltb, le-ltb, ltb-true, ltb-false, lt-leb, le-leb, le
 use lib.IntN.{ℤ, pos, negsuc, subℕ, _+ℤ_}
 use lib.Signed.{mag, ltZ, leZ}
 use lib.Dec.{ltb, leb, eqb}
-use Rattle.meaning.specs.Values.{signed, unsigned, agree, plus, inRange}
+use Rattle.meaning.specs.Values.{signed, agree, plus, inRange}
 use Rattle.words.proofs.Laws.{split}
 
 -- the value of a word plus 2147483648
@@ -153,17 +153,3 @@ lift-eqb a b fa fb =
 pub signed-agree : (a b : ℕ) → a < 4294967296 → b < 4294967296 → agree (signed a) (signed b) ≡ eqb a b
 unfolding agree
 signed-agree a b fa fb = rw (signed-le a b fa fb, signed-le b a fb fa, both-eqb (lift a) (lift b)) (lift-eqb a b fa fb)
-
--- ---- A word and its value are each other's
-
-pub signed-unsigned : (z : ℤ) → mag z < 2147483648 → signed (unsigned z) ≡ z
-unfolding signed unsigned
-signed-unsigned (pos n) h = rw (lt-ltb n 2147483648 h)
-signed-unsigned (negsuc n) h = rw (le-ltb (4294967295 - n) 2147483648 (omega arith)) (ap negsuc (omega arith))
-
-pub unsigned-signed : (x : ℕ) → x < 4294967296 → unsigned (signed x) ≡ x
-unfolding signed unsigned
-unsigned-signed x h =
-    split (ltb x 2147483648)
-    (λ e. rw e)
-    (λ e. rw e (omega (arith, ltb-false x 2147483648 e)))

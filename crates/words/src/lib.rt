@@ -26,7 +26,8 @@ pub enum End {
     Short,
 }
 
-fn wide(x: u8) -> usize
+// A byte as a number.
+pub fn wide(x: u8) -> usize
     ensures { λ r. ⌜ (r ≡ x) × (r < 256) ⌝ }
 {
     x as usize

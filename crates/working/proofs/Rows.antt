@@ -18,6 +18,7 @@ use Rattle.slots.specs.Slots.{tableAt, tableBytes, Frame, Stands, Holds, blank}
 use Rattle.slots.proofs.Frames.{frame-refl, frame-trans}
 use Rattle.slots.proofs.Tables.{table-length, table-kept-below, stands-kept-below}
 use Rattle.room.specs.Room.{CHOSEN, WORKED, ROWS, Laid, rowMeant, rowsMeant, rowsWith}
+use Rattle.room.proofs.Live.{rows-pushed}
 use Rattle.query.proofs.Loops.{rest-all, rest-none, rest-more}
 use Rattle.working.specs.Working.{workedRow, allWorked, Works, WorkedOut, WorkedValues}
 
@@ -53,11 +54,6 @@ following-more : (l : List Row) (r : Row) (m : Option (List Row)) → following 
 unfolding following
 following-more l r none = refl
 following-more l r (some rs) = ap some (sym (append-assoc l (r ∷ []) rs))
-
-rows-append : (a b : List Slot) → rowsMeant (a ++ b) ≡ rowsMeant a ++ rowsMeant b
-unfolding rowsMeant
-rows-append [] b = refl
-rows-append (x ∷ a) b = ap (λ (r : List Row). rowMeant x ∷ r) (rows-append a b)
 
 -- ---- The loop
 
@@ -182,7 +178,7 @@ module _ {x0 x : List ℕ} {es : List Expression} {mask n left : ℕ} (t : Turni
               t .list
               ∙ rw (rest, p .list, ← q)
               (following-more (rowsMeant (tableAt x WORKED)) (rowMeant row) m
-              ∙ ap (λ (l : List Row). following l m) (sym (rows-append (tableAt x WORKED) (row ∷ []))));
+              ∙ ap (λ (l : List Row). following l m) (sym (rows-pushed (tableAt x WORKED) row)));
         }
 
     -- a sum that leaves 32 bits

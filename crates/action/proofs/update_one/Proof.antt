@@ -40,19 +40,12 @@ with-values-requires c κs =
     let a = start .args in
     (start .pre .1 .0, not-short value (ones (a .mask)) (now (a .log)) (a .values) (start .pre .1 .1))
 
-update-row-requires : tie.Need-update-row-requires
-update-row-requires c κs =
-    let filled = c .before .before in
-    let read = filled .before in
-    let at = read .before .before .before in
-    let asked = at .before .before in
-    let start = asked .before .before .before .before in
-    let run = start .pre .0 in
-    let a = start .args in
-    let own = filled .with-values .ok .1 .1 in
+-- the fields of the row that takes the place of the old one fit, as owning it tells
+fits : (c : tie.After-with-values) → Fits (c .with-values .result)
+fits c =
+    let own = c .with-values .ok .1 .1 in
     let bytes = own .1 in
     let values = bytes .1 .1 .1 in
-    let fits : Fits (filled .with-values .result) =
     record {
       handle = own .0 .1;
       kind = bytes .0 .1;
@@ -62,13 +55,23 @@ update-row-requires c κs =
       v1 = values .1 .0 .1;
       v2 = values .1 .1 .0 .1;
       v3 = values .1 .1 .1 .0 .1;
-    } in (
+    }
+
+update-row-requires : tie.Need-update-row-requires
+update-row-requires c κs =
+    let filled = c .before .before in
+    let read = filled .before in
+    let at = read .before .before .before in
+    let asked = at .before .before in
+    let start = asked .before .before .before .before in
+    let run = start .pre .0 in
+    let a = start .args in (
       run .represents .laid,
       (
         live-sorted (run .reached) (run .represents),
         update-can run (a .handle) (valuesAt (now (a .log)) (ones (a .mask)) (a .values)) (start .pre .1 .0) (c .narrow .ensures)
             (sym (asked .find .ensures) ∙ at .found .given .1)
-            (rw (read .slot-at .ensures) at (filled .with-values .ensures)) fits,
+            (rw (read .slot-at .ensures) at (filled .with-values .ensures)) (fits filled),
       ),
     )
 
@@ -83,23 +86,9 @@ returns-2 c =
     let start = asked .before .before .before .before in
     let run = start .pre .0 in
     let a = start .args in
-    let own = filled .with-values .ok .1 .1 in
-    let bytes = own .1 in
-    let values = bytes .1 .1 .1 in
-    let fits : Fits (filled .with-values .result) =
-    record {
-      handle = own .0 .1;
-      kind = bytes .0 .1;
-      mask = bytes .1 .0 .1;
-      table = bytes .1 .1 .0 .1;
-      v0 = values .0 .1;
-      v1 = values .1 .0 .1;
-      v2 = values .1 .1 .0 .1;
-      v3 = values .1 .1 .1 .0 .1;
-    } in
     updated-one run (a .handle) (valuesAt (now (a .log)) (ones (a .mask)) (a .values)) (start .pre .1 .0) (narrowed .narrow .ensures)
     (sym (asked .find .ensures) ∙ at .found .given .1)
-    (rw (read .slot-at .ensures) at (filled .with-values .ensures)) fits
+    (rw (read .slot-at .ensures) at (filled .with-values .ensures)) (fits filled)
     (made .update-row .result) (λ k. c .slice-known2 .given k .fits) (made .update-row .ensures)
 
 pub update-one-spec : {M : Type 1} → statement M

@@ -6,7 +6,8 @@ use native.Mathlib.Omega.{arith}
 use Rattle.room.proofs.Live.{live-sorted}
 use Rattle.room.proofs.Draws.{draw-few}
 use Rattle.consider.proofs.Marked.{running-drawn}
-use Rattle.consider.proofs.Considered.{can-read, drawn, considers-acts, considers-none}
+use Rattle.plan.proofs.Listed.{can-read}
+use Rattle.consider.proofs.Considered.{drawn, considers-acts, considers-none}
 use Rattle.consider.proofs.consider.Statement.{statement}
 use Rattle.consider.proofs.consider.Tie as tie
 

@@ -7,10 +7,10 @@ use Rattle.effects.proofs.join_all.Statement.{statement}
 use Rattle.effects.proofs.join_all.Tie as tie
 
 abbrev Inv-loop : tie.InvT-loop
-Inv-loop room₀ op active k₀ room k = Upto room₀ room active op k
+Inv-loop room₀ op active k₀ near₀ room k near = Upto room₀ room active op k
 
 abbrev μ-loop : tie.MeasureT-loop
-μ-loop room₀ op active k₀ room k = 16 - k
+μ-loop room₀ op active k₀ near₀ room k near = 16 - k
 
 join-table-requires : tie.Need-join-table-requires Inv-loop μ-loop
 join-table-requires c κs =

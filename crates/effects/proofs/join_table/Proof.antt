@@ -8,8 +8,8 @@ use Rattle.effects.proofs.Joining.{free-slot, joined-insert}
 use Rattle.effects.proofs.join_table.Statement.{statement}
 use Rattle.effects.proofs.join_table.Tie as tie
 
-place-requires : tie.Need-place-requires
-place-requires c κs =
+place-near-requires : tie.Need-place-near-requires
+place-near-requires c κs =
     let start = c .before .before in
     (start .pre .0, start .pre .1 .sorted)
 
@@ -19,7 +19,7 @@ join-at-requires c κs =
     let asked = test .before in
     let placed = asked .before .before in
     let start = placed .before .before .before in
-    (start .pre .0, (placed .place .ensures, rw (← asked .is-at .ensures) (test .if1 .taken)))
+    (start .pre .0, (placed .place-near .ensures, rw (← asked .is-at .ensures) (test .if1 .taken)))
 
 insert-at-requires : tie.Need-insert-at-requires
 insert-at-requires c κs =
@@ -28,11 +28,11 @@ insert-at-requires c κs =
     let placed = asked .before .before in
     let start = placed .before .before .before in
     let a = start .args in
-    let free = free-slot (a .room .now) (a .base) _ (a .op) (placed .place .ensures)
+    let free = free-slot (a .room .now) (a .base) _ (a .op) (placed .place-near .ensures)
     (rw (← asked .is-at .ensures) (test .if1 .left)) (start .pre .1) in
     let low = place-within (a .op .handle) (tableAt (a .room .now) (a .base)) in
     let len = table-length (a .room .now) (a .base) in
-    (start .pre .0, (free, (omega arith, omega (arith, placed .place .ensures, low, len))))
+    (start .pre .0, (free, (omega arith, omega (arith, placed .place-near .ensures, low, len))))
 
 returns-2 : tie.Need-returns-2
 returns-2 c =
@@ -42,12 +42,12 @@ returns-2 c =
     let placed = asked .before .before in
     let start = placed .before .before .before in
     let a = start .args in
-    joined-insert (a .room .now) (a .base) _ (a .op) (placed .place .ensures) (rw (← asked .is-at .ensures) (test .if1 .left))
+    joined-insert (a .room .now) (a .base) _ (a .op) (placed .place-near .ensures) (rw (← asked .is-at .ensures) (test .if1 .left))
     (put .insert-at .ensures)
 
 pub join-table-spec : {M : Type 1} → statement M
 join-table-spec =
     tie.close
-    (tie.spec place-requires (λ c κs. search needs) join-at-requires
+    (tie.spec place-near-requires (λ c κs. search needs) join-at-requires
     (λ c. c .before .before .join-at .ensures .frame .len) (λ c. c .before .before .join-at .ensures)
     insert-at-requires (λ c. returns-2 c .frame .len) returns-2)

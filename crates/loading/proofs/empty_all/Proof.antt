@@ -13,7 +13,7 @@ returns c =
     let transition = chosen .before .before .before .before in
     let live = transition .before .before .before .before in
     let start = live .before .before .before in
-    all-emptied (start .pre) (live .empty .ensures) (transition .empty-transition .ensures) (chosen .empty2 .ensures)
+    all-emptied (start .pre) (live .empty .ensures) (transition .empty-tables .ensures) (chosen .empty2 .ensures)
     (worked .empty3 .ensures) (waits .empty-waits .ensures)
 
 pub empty-all-spec : {M : Type 1} → statement M

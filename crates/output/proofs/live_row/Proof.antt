@@ -9,7 +9,7 @@ use Rattle.output.proofs.live_row.Tie as tie
 
 returns : tie.Need-returns
 unfolding Images.rowMeant Room.rowMeant
-returns c = record { is = rw (c .wide .ensures) (ap Room.rowMeant (c .before .slot-at .ensures)); table = omega arith }
+returns c = record { is = rw (c .wide .ensures .0) (ap Room.rowMeant (c .before .slot-at .ensures)); table = omega arith }
 
 pub live-row-spec : {M : Type 1} → statement M
 live-row-spec = tie.close (tie.spec (λ c κs. search needs) (λ c κs. search needs) returns)

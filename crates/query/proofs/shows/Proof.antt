@@ -7,7 +7,7 @@ use Rattle.query.proofs.shows.Tie as tie
 
 returns : tie.Need-returns
 unfolding shows
-returns c = rw (lt-ltb _ 4 (c .before .if1 .taken), c .wide .ensures)
+returns c = rw (lt-ltb _ 4 (c .before .if1 .taken), c .wide .ensures .0)
 
 returns-2 : tie.Need-returns-2
 unfolding shows

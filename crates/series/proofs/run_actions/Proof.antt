@@ -7,7 +7,7 @@ use Rattle.meaning.specs.ByteLayouts.{action}
 use Rattle.meaning.specs.Processing.{runActions}
 use Rattle.book.specs.Books.{actionsMeant}
 use Rattle.room.specs.Room.{transitionIn}
-use Rattle.series.proofs.Parsed.{action-sound, action-read, action-unread}
+use Rattle.series.proofs.Parsed.{action-fits, action-read, action-unread}
 use Rattle.series.proofs.Ranged.{transition-ranged}
 use Rattle.series.proofs.Composed.{endsRolledBack, endsFailed}
 use Rattle.series.proofs.Loops.{Left, actions-series, left-start, left-done, left-bad, left-more, left-ends, action-makes}
@@ -32,7 +32,7 @@ perform-requires c κs =
     let args = at-loop .before .before .before .args in
     let s = now (args .book) in
     let e = action-read s (args .triggers) (at-loop .loop .here) (answer .action-at .ensures) (read .action .given .1) in
-    (at-loop .loop .inv .onward .running, action-sound (args .triggers) s (at-loop .loop .here) _ _ e .fits)
+    (at-loop .loop .inv .onward .running, action-fits (args .triggers) .fit e)
 
 returns : tie.Need-returns Inv-loop μ-loop
 unfolding actionsMeant

@@ -5,7 +5,7 @@ use denote.Ref.{now}
 use native.Mathlib.Omega.{arith}
 use Rattle.meaning.specs.ByteLayouts.{operation}
 use Rattle.meaning.specs.Processing.{runLog}
-use Rattle.series.proofs.Parsed.{operation-sound, operation-read, operation-unread}
+use Rattle.series.proofs.Parsed.{operation-fits, operation-read, operation-unread}
 use Rattle.series.proofs.Composed.{endsRolledBack, endsFailed}
 use Rattle.series.proofs.Loops.{Left, log-series, left-start, left-done, left-bad, left-more, left-ends, operation-makes}
 use Rattle.series.proofs.run_log.Statement.{statement}
@@ -27,7 +27,7 @@ operate-requires c κs =
     let at-loop = answer .before .before in
     let s = now (at-loop .before .before .before .args .log) in
     let e = operation-read s (at-loop .loop .here) (answer .operation-at .ensures) (read .operation .given .1) in
-    (at-loop .loop .inv .onward .running, operation-sound s (at-loop .loop .here) _ _ e .fits)
+    (at-loop .loop .inv .onward .running, operation-fits .fit e)
 
 returns : tie.Need-returns Inv-loop μ-loop
 returns c =

@@ -10,18 +10,18 @@ push-requires : tie.Need-push-requires
 push-requires c κs =
     let wide = c .before .before .before in
     let start = wide .before .before in
-    (start .pre .stands, (own-spare _ _ (sym (wide .wide .ensures) ∙ c .before .if1 .taken) (start .pre), omega arith))
+    (start .pre .stands, (own-spare _ _ (sym (wide .wide .ensures .0) ∙ c .before .if1 .taken) (start .pre), omega arith))
 
 returns : tie.Need-returns
 returns c =
     let push = c .before .before in
     let test = push .before .before in
-    own-added _ _ (sym (test .before .before .wide .ensures) ∙ test .if1 .taken) (push .push .ensures)
+    own-added _ _ (sym (test .before .before .wide .ensures .0) ∙ test .if1 .taken) (push .push .ensures)
 
 returns-2 : tie.Need-returns-2
 returns-2 c =
     let wide = c .before .before in
-    other-added _ _ (λ q. c .if1 .left (wide .wide .ensures ∙ q)) (wide .before .before .pre .stands)
+    other-added _ _ (λ q. c .if1 .left (wide .wide .ensures .0 ∙ q)) (wide .before .before .pre .stands)
 
 pub draw-held-spec : {M : Type 1} → statement M
 draw-held-spec =

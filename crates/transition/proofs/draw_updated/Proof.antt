@@ -15,7 +15,7 @@ draw-live-requires c κs =
     let meet = test .before in
     let start = meet .before .before .before in
     let tells = tells-updated (watchRule (start .args .rule)) (liveRows (start .args .room .now)) (start .args .e) (start .pre .0)
-    (meets-is _ (meet .before .wide .ensures) (meet .meet .ensures) ∙ test .if1 .taken) in
+    (meets-is _ (meet .before .wide .ensures .0) (meet .meet .ensures) ∙ test .if1 .taken) in
     (start .pre .1 .0, rw (tells .new) at (start .pre .1 .1 .new))
 
 draw-held-requires : tie.Need-draw-held-requires
@@ -26,7 +26,7 @@ draw-held-requires c κs =
     let meet = test .before in
     let start = meet .before .before .before in
     let tells = tells-updated (watchRule (start .args .rule)) (liveRows (start .args .room .now)) (start .args .e) (start .pre .0)
-    (meets-is _ (meet .before .wide .ensures) (meet .meet .ensures) ∙ test .if1 .taken) in
+    (meets-is _ (meet .before .wide .ensures .0) (meet .meet .ensures) ∙ test .if1 .taken) in
     room-above (live .draw-live .ensures .frame) (rw (tells .old) at (start .pre .1 .1 .old)) (omega arith)
 
 returns : tie.Need-returns
@@ -37,7 +37,7 @@ returns c =
     let meet = test .before in
     let start = meet .before .before .before in
     shown-updated (start .pre .1 .1)
-    (tells-updated _ _ _ (start .pre .0) (meets-is _ (meet .before .wide .ensures) (meet .meet .ensures) ∙ test .if1 .taken))
+    (tells-updated _ _ _ (start .pre .0) (meets-is _ (meet .before .wide .ensures .0) (meet .meet .ensures) ∙ test .if1 .taken))
     (live .draw-live .ensures) (held .draw-held .ensures)
 
 returns-2 : tie.Need-returns-2
@@ -45,7 +45,7 @@ returns-2 c =
     let meet = c .before in
     let start = meet .before .before .before in
     shown-nowhere (start .pre .1 .1)
-    (tells-missed _ _ _ (start .pre .0) (meets-is _ (meet .before .wide .ensures) (meet .meet .ensures) ∙ c .if1 .left))
+    (tells-missed _ _ _ (start .pre .0) (meets-is _ (meet .before .wide .ensures .0) (meet .meet .ensures) ∙ c .if1 .left))
 
 pub draw-updated-spec : {M : Type 1} → statement M
 draw-updated-spec =

@@ -24,7 +24,7 @@ is-triggered-requires c κs =
     let turn = c .before in
     let at-loop = turn .before in
     let asks = at-loop .before .before .before .before .before .pre in
-    let below = walk-below (at-loop .loop .inv) (turn .loop-test .taken) _ (c .wide .ensures) refl (asks .1 .1 .1) in
+    let below = walk-below (at-loop .loop .inv) (turn .loop-test .taken) _ (c .wide .ensures .0) refl (asks .1 .1 .1) in
     (asks .0, ((asks .1 .0, below), asks .1 .1 .0))
 
 returns : tie.Need-returns Inv-loop μ-loop
@@ -32,14 +32,14 @@ returns c =
     let asked = c .before in
     let read = asked .before in
     let turn = read .before in
-    walk-yes (turn .before .loop .inv) (turn .loop-test .taken) _ (read .wide .ensures) (asked .is-triggered .ensures) (c .if1 .taken)
+    walk-yes (turn .before .loop .inv) (turn .loop-test .taken) _ (read .wide .ensures .0) (asked .is-triggered .ensures) (c .if1 .taken)
 
 loop-again : tie.Need-loop-again Inv-loop μ-loop
 loop-again c =
     let asked = c .before in
     let read = asked .before in
     let turn = read .before in
-    walk-no (turn .before .loop .inv) (turn .loop-test .taken) _ (read .wide .ensures) (asked .is-triggered .ensures) (c .if1 .left)
+    walk-no (turn .before .loop .inv) (turn .loop-test .taken) _ (read .wide .ensures .0) (asked .is-triggered .ensures) (c .if1 .left)
 
 returns-2 : tie.Need-returns-2 Inv-loop μ-loop
 returns-2 c = walk-done (c .before .loop .inv) (c .loop-test .left)

@@ -2,7 +2,8 @@
 use borrow.Author.Needs.{needs}
 use borrow.Author.Tests.{not-true, not-false}
 use native.Mathlib.Omega.{arith}
-use Rattle.trigger.proofs.Woken.{not-active, read-and-woken, not-read}
+use Rattle.plan.proofs.Listed.{can-read}
+use Rattle.trigger.proofs.Woken.{not-active, read-and-woken}
 use Rattle.trigger.proofs.is_triggered.Statement.{statement}
 use Rattle.trigger.proofs.is_triggered.Tie as tie
 
@@ -25,7 +26,7 @@ returns-3 : tie.Need-returns-3
 returns-3 c =
     let read = c .before .before in
     let start = read .before .before .before .before .before .before in
-    not-read _ _ (start .pre .1 .1 .placed _ (start .pre .1 .0 .1)) (read .rule-at .ensures) (c .enum-told .given .1)
+    absurd (can-read (start .pre .1 .1 .placed _ (start .pre .1 .0 .1)) (read .rule-at .ensures) (c .enum-told .given .1))
 
 pub is-triggered-spec : {M : Type 1} → statement M
 is-triggered-spec =
