@@ -1,3 +1,4 @@
 pub mod Laws
 pub mod Kept
 pub mod Loops
+mod Matching

@@ -1,7 +1,8 @@
 // Queries: the rows that a source shows, the terms that hold of a row, and the rows that an action chooses.
-// A match copies each row of its source before it compares.
+// What a match wants of a row of its source is read off the book once, and then asked of row after row.
 ghost use mathlib.Core.Path.{_≡_};
 ghost use mathlib.Core.Bool.{_&&_};
+ghost use Prim.Native.Nat.{_≤_};
 ghost use Rattle.meaning.specs.Base.{any, someIn};
 ghost use Rattle.meaning.specs.Values.{signed};
 ghost use Rattle.meaning.specs.ByteLayouts.{pair};
@@ -10,11 +11,26 @@ ghost use Rattle.words.specs.Words.{readable};
 ghost use Rattle.terms.specs.Terms.{termMeant, termsMeant, queryMeant};
 ghost use Rattle.room.specs.Room.{Laid, rowMeant, liveRows, transitionIn};
 ghost use Rattle.query.specs.Chosen.{baseOf, shows as Chosen·shows, rowsFrom, Chose};
+ghost use Rattle.query.specs.Matches.{admits as Matches·admits, meets as Matches·meets, Narrows, WantedBy};
 use slots::Slot;
 use terms::Query;
 use terms::Term;
 use terms::TermRead;
 use terms::Terms;
+
+// What is wanted of a source row: in each column that is asked for, the value; not possible where two pairs ask for different values of
+// one column.
+struct Wants {
+    possible: bool,
+    asks0: bool,
+    v0: u32,
+    asks1: bool,
+    v1: u32,
+    asks2: bool,
+    v2: u32,
+    asks3: bool,
+    v3: u32,
+}
 
 // The value of a row in a column; past the last column it is 0, as in the specification.
 pub fn cell(e: Slot, column: usize) -> u32
@@ -52,37 +68,147 @@ fn shows(source: usize, e: Slot) -> bool
     true
 }
 
-// Whether own row and source row agree on n pairs.
-fn pairs_agree(book: &[u8], at: usize, n: usize, own: Slot, other: Slot) -> bool
-    ensures { λ r. ⌜ r ≡ Queries.agreeOn (readable n pair (now (book .entry)) at) (rowMeant own) (rowMeant other) ⌝ }
+// Whether a value is the wanted one of a column, where one is asked for.
+fn admits(asks: bool, wanted: u32, value: u32) -> bool
+    ensures { λ r. ⌜ r ≡ Matches·admits asks wanted (signed value) ⌝ }
 {
+    if asks {
+        return words::agree(wanted, value);
+    }
+    true
+}
+
+// Whether all is still possible with one more value asked for in a column.
+fn joins(possible: bool, asks: bool, wanted: u32, value: u32) -> bool
+    ensures { λ r. ⌜ r ≡ (possible && Matches·admits asks wanted (signed value)) ⌝ }
+{
+    if possible {
+        return admits(asks, wanted, value);
+    }
+    false
+}
+
+// What is wanted with one more value asked for, in a column 0..3.
+fn narrowed(w: Wants, column: usize, value: u32) -> Wants
+    requires { ⌜ column ≤ 3 ⌝ }
+    ensures { λ r. ⌜ Narrows w column (signed value) r ⌝ }
+{
+    match column {
+        0 => Wants {
+            possible: joins(w.possible, w.asks0, w.v0, value),
+            asks0: true,
+            v0: value,
+            asks1: w.asks1,
+            v1: w.v1,
+            asks2: w.asks2,
+            v2: w.v2,
+            asks3: w.asks3,
+            v3: w.v3,
+        },
+        1 => Wants {
+            possible: joins(w.possible, w.asks1, w.v1, value),
+            asks0: w.asks0,
+            v0: w.v0,
+            asks1: true,
+            v1: value,
+            asks2: w.asks2,
+            v2: w.v2,
+            asks3: w.asks3,
+            v3: w.v3,
+        },
+        2 => Wants {
+            possible: joins(w.possible, w.asks2, w.v2, value),
+            asks0: w.asks0,
+            v0: w.v0,
+            asks1: w.asks1,
+            v1: w.v1,
+            asks2: true,
+            v2: value,
+            asks3: w.asks3,
+            v3: w.v3,
+        },
+        _ => Wants {
+            possible: joins(w.possible, w.asks3, w.v3, value),
+            asks0: w.asks0,
+            v0: w.v0,
+            asks1: w.asks1,
+            v1: w.v1,
+            asks2: w.asks2,
+            v2: w.v2,
+            asks3: true,
+            v3: value,
+        },
+    }
+}
+
+// What n pairs want of a source row that is to agree with a row.
+fn wanted_by(book: &[u8], at: usize, n: usize, own: Slot) -> Wants
+    ensures { λ r. ⌜ WantedBy (readable n pair (now (book .entry)) at) (rowMeant own) r ⌝ }
+{
+    let mut w = Wants {
+        possible: true,
+        asks0: false,
+        v0: 0,
+        asks1: false,
+        v1: 0,
+        asks2: false,
+        v2: 0,
+        asks3: false,
+        v3: 0,
+    };
     let mut left = n;
     let mut here = at;
     while 0 < left {
         let a = words::byte(book, here);
         if 3 < a {
-            return true;
+            return w;
         }
         let b = words::byte(book, here + 1);
         if 3 < b {
-            return true;
+            return w;
         }
-        if !words::agree(cell(own, a), cell(other, b)) {
-            return false;
-        }
+        w = narrowed(w, b, cell(own, a));
         here = here + 1 + 1;
         left -= 1;
     }
-    true
+    w
 }
 
-fn row_agrees(book: &[u8], source: usize, n: usize, pairs: usize, own: Slot, other: Slot) -> bool
-    ensures { λ r. ⌜ r ≡ (Chosen·shows source other && Queries.agreeOn (readable n pair (now (book .entry)) pairs) (rowMeant own) (rowMeant other)) ⌝ }
+// Whether a row that stands where a source's rows do is one of them and has what is wanted.
+fn meets(source: usize, w: Wants, e: Slot) -> bool
+    ensures { λ r. ⌜ r ≡ (Chosen·shows source e && Matches·meets w (rowMeant e)) ⌝ }
 {
-    if !shows(source, other) {
+    if !shows(source, e) {
         return false;
     }
-    pairs_agree(book, pairs, n, own, other)
+    if !admits(w.asks0, w.v0, e.v0) {
+        return false;
+    }
+    if !admits(w.asks1, w.v1, e.v1) {
+        return false;
+    }
+    if !admits(w.asks2, w.v2, e.v2) {
+        return false;
+    }
+    admits(w.asks3, w.v3, e.v3)
+}
+
+// Whether some row of a source has what is wanted.
+fn some_meets(room: &[u8], source: usize, w: Wants) -> bool
+    requires { ⌜ Laid (now room) ⌝ }
+    ensures { λ r. ⌜ r ≡ any (Matches·meets w) (rowsFrom (now (room .entry)) source) ⌝ }
+{
+    let base = base_of(source);
+    let size = slots::size(room, base);
+    let mut left = size;
+    while 0 < left {
+        let e = slots::slot_at(room, base, room::ROWS, size - left);
+        if meets(source, w, e) {
+            return true;
+        }
+        left -= 1;
+    }
+    false
 }
 
 // Whether some row of a source agrees with a row on n pairs.
@@ -90,17 +216,11 @@ fn some_agrees(room: &[u8], book: &[u8], source: usize, n: usize, pairs: usize, 
     requires { ⌜ Laid (now room) ⌝ }
     ensures { λ r. ⌜ r ≡ any (Queries.agreeOn (readable n pair (now (book .entry)) pairs) (rowMeant own)) (rowsFrom (now (room .entry)) source) ⌝ }
 {
-    let base = base_of(source);
-    let size = slots::size(room, base);
-    let mut left = size;
-    while 0 < left {
-        let other = slots::slot_at(room, base, room::ROWS, size - left);
-        if row_agrees(book, source, n, pairs, own, other) {
-            return true;
-        }
-        left -= 1;
+    let w = wanted_by(book, pairs, n, own);
+    if !w.possible {
+        return false;
     }
-    false
+    some_meets(room, source, w)
 }
 
 // Whether a term holds of a row.

@@ -1,5 +1,5 @@
--- Whether a rule of a plan is triggered: an inactive one is not; an active one is read where the plan says that it stands, and what wakes
--- it asks only for the table, the triggers and the columns of its head.
+-- Whether a rule of a plan is triggered: an inactive one is not; the head of an active one is read where the plan says that it stands, and
+-- what wakes it asks only for the table, the triggers and the columns there.
 use mathlib.Core.Path.{_≡_, refl, sym, ap, _∙_}
 use mathlib.Core.Bool.{Bool, true, false, _&&_}
 use mathlib.Core.List.{List}
@@ -11,13 +11,13 @@ use Rattle.meaning.specs.ByteLayouts as ByteLayouts
 use Rattle.meaning.specs.RowOperations.{Effect, NetEffect, nothing, inserted, deleted, updated}
 use Rattle.meaning.specs.Processing.{triggered, waits}
 use Rattle.meaning.specs.Processing.TransitionTables.{wakes, ownTable, meets}
-use Rattle.book.specs.declared.Rule.{Rule as RuleStood}
-use Rattle.book.specs.declared.RuleRead.{RuleRead}
-use Rattle.book.specs.declared.RuleRead.the-variants as ruleRead
-use Rattle.book.specs.Books.{ruleOr, ruleMeant, ruleOf}
+use Rattle.book.specs.declared.Head.{Head}
+use Rattle.book.specs.declared.HeadRead.{HeadRead}
+use Rattle.book.specs.declared.HeadRead.the-variants as headRead
+use Rattle.book.specs.Books.{headThen, ruleOf}
+use Rattle.book.proofs.Laws.{head-read, head-stands}
 use Rattle.plan.specs.declared.Plan.{Plan}
 use Rattle.plan.specs.Plans.{Placed}
-use Rattle.plan.proofs.Listed.{read-listed}
 use Rattle.room.specs.declared.Watch.{Watch}
 use Rattle.room.specs.Room.{watchRule, waitsIn}
 use Rattle.trigger.specs.Triggers.{Triggers}
@@ -41,12 +41,11 @@ any-same : (r : Rule) (w : Watch) → WatchOf r w → (es : NetEffect)
     → any (λ p. wakes (watchRule w) (p .1)) es ≡ any (λ p. wakes r (p .1)) es
 any-same r w a es = λ i. any (λ p. wakes-same r w a (p .1) i) es
 
--- the rule that is read is the one that is listed
-watched : (s : List ℕ) {r : Rule} (rule : RuleStood) (w : Watch) → ruleMeant s rule ≡ r
-    → (w .table ≡ rule .head .table) × (w .triggers ≡ rule .head .triggers) × (w .columns ≡ rule .head .columns)
-    → WatchOf r w
-unfolding ruleMeant ruleOf
-watched s rule w same made =
+-- a rule with a head is looked out for by that head
+watched : (r : Rule) (head : Head) (w : Watch) → ruleOf head (r .condition) (r .actions) ≡ r
+    → (w .table ≡ head .table) × (w .triggers ≡ head .triggers) × (w .columns ≡ head .columns) → WatchOf r w
+unfolding ruleOf
+watched r head w same made =
     record {
       table = made .0 ∙ ap (λ (x : Rule). x .table) same;
       triggers = made .1 ∙ ap (λ (x : Rule). x .triggers) same;
@@ -54,6 +53,11 @@ watched s rule w same made =
     }
 
 -- ---- Whether rule k is triggered
+
+-- where the plan says that a rule stands, a head can be read
+pub can-read : {s : List ℕ} {n k start : ℕ} {active : Bool} → Placed s n k start active → {read : HeadRead}
+    → headThen s start read ≡ ByteLayouts.rule n s start → read ≡ headRead.Bad → ⊥
+can-read {s} {start = start} here e is = head-stands s start (e ∙ here .read) is
 
 module _ (xs : List ℕ) {s : List ℕ} {plan : Plan} (k : ℕ) (here : Placed s (plan .count) k (getD (plan .starts) k 0)
     (getD (plan .active) k false)) where
@@ -63,15 +67,14 @@ module _ (xs : List ℕ) {s : List ℕ} {plan : Plan} (k : ℕ) (here : Placed s
       let idle : here .rule .active ≡ false = sym (here .is) ∙ off in
       record { is = λ state rep. rw (here .listed, idle) }
 
-  pub read-and-woken : {read : RuleRead} {rule : RuleStood} {after : ℕ} (w : Watch) {r : Bool} → k < 16
-      → getD (plan .active) k false ≡ true
-      → ruleOr s read ≡ ByteLayouts.rule (plan .count) s (getD (plan .starts) k 0) → read ≡ ruleRead.Is rule after
-      → (w .table ≡ rule .head .table) × (w .triggers ≡ rule .head .triggers) × (w .columns ≡ rule .head .columns)
+  pub read-and-woken : {read : HeadRead} {head : Head} (w : Watch) {r : Bool} → k < 16 → getD (plan .active) k false ≡ true
+      → headThen s (getD (plan .starts) k 0) read ≡ ByteLayouts.rule (plan .count) s (getD (plan .starts) k 0)
+      → read ≡ headRead.Is head → (w .table ≡ head .table) × (w .triggers ≡ head .triggers) × (w .columns ≡ head .columns)
       → r ≡ any (λ p. wakes (watchRule w) (p .1)) (waitsIn xs k) → Triggers xs s plan k r
   unfolding triggered
-  read-and-woken {rule = rule} w {r} low on e is made asked =
+  read-and-woken {head = head} w {r} low on e is made asked =
       let runs : here .rule .active ≡ true = sym (here .is) ∙ on in
-      let of = watched s rule w (read-listed here e is) made in
+      let of = watched (here .rule) head w (head-read s (getD (plan .starts) k 0) (e ∙ here .read) is) made in
       record {
         is = λ state rep.
             rw (here .listed)

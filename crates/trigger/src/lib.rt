@@ -5,7 +5,7 @@ ghost use Rattle.room.specs.Room.{Laid};
 ghost use Rattle.plan.specs.Plans.{Planned};
 ghost use Rattle.trigger.specs.Triggers.{Triggers, TriggersFirst, Numbers};
 use book::Head;
-use book::RuleRead;
+use book::HeadRead;
 use plan::Plan;
 use room::Watch;
 
@@ -38,12 +38,9 @@ fn is_triggered(room: &[u8], s: &[u8], plan: Plan, k: usize) -> bool
         return false;
     }
     let starts = plan.starts;
-    match book::rule_at(s, plan.count, starts[k]) {
-        RuleRead::Is { rule, next: _ } => {
-            let head = rule.head;
-            effects::triggered(room, k, watch(head))
-        }
-        RuleRead::Bad => false,
+    match book::head_at(s, plan.count, starts[k]) {
+        HeadRead::Is { head } => effects::triggered(room, k, watch(head)),
+        HeadRead::Bad => false,
     }
 }
 
