@@ -4,6 +4,8 @@ use mathlib.Core.Path.{_≡_, refl, sym, ap, _∙_}
 use mathlib.Core.Bool.{Bool, true, false, _&&_, _||_}
 use mathlib.Core.List.{List, [], _∷_, map}
 use Prim.Native.Nat.{ℕ, _+_, _-_, _≤_, _<_}
+use borrow.Author.Tests.{eqb-true}
+use native.Mathlib.Omega.{arith}
 use lib.Dec.{eqb, ltb}
 use Rattle.meaning.specs.Base.{if_then_else_, any, all, select, someIn}
 use Rattle.meaning.specs.Covers.{Row}
@@ -15,6 +17,7 @@ use Rattle.words.proofs.Laws.{split, readable-none, readable-bad, readable-more
 use Rattle.slots.specs.declared.Slot.{Slot}
 use Rattle.slots.specs.Slots.{tableAt}
 use Rattle.terms.specs.declared.Query.{Query}
+use Rattle.terms.specs.declared.Terms.{Terms}
 use Rattle.terms.specs.Terms.{sourceMeant, termsMeant, queryMeant}
 use Rattle.terms.proofs.Laws.{column-looked, column-wrong}
 use Rattle.room.specs.Room.{rowMeant, rowsMeant, liveRows, transitionIn}
@@ -162,3 +165,17 @@ module _ (xs book : List ℕ) (triggers : ℕ) (q : Query) where
   some-chosen =
       some-select (allHold (transitionIn xs) (liveRows xs) (termsMeant book triggers (q .terms))) (rowsFrom xs (q .source))
       ∙ any-rows xs (q .source) (allHold (transitionIn xs) (liveRows xs) (termsMeant book triggers (q .terms)))
+
+-- with no terms nothing is asked of a row
+pub none-asked : (xs book : List ℕ) (triggers : ℕ) (t : Terms) (r : Row) → eqb (t .count) 0 ≡ true
+    → allHold (transitionIn xs) (liveRows xs) (termsMeant book triggers t) r ≡ true
+unfolding allHold termsMeant
+none-asked xs book triggers t r e = all-none _ _ (t .count) book (t .first) (omega (arith, eqb-true (t .count) 0 e))
+
+-- a row is asked for its terms only where the source shows it
+module _ {s shown : Bool} (test : s ≡ shown) where
+  pub not-shown : (held : Bool) → s ≡ false → false ≡ (shown && held)
+  not-shown held f = rw (← test, f)
+
+  pub shown-held : {h held : Bool} → s ≡ true → h ≡ held → h ≡ (shown && held)
+  shown-held t e = rw (← test, t) e

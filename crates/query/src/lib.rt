@@ -2,14 +2,16 @@
 // What a match wants of a row of its source is read off the book once, and then asked of row after row.
 ghost use mathlib.Core.Path.{_≡_};
 ghost use mathlib.Core.Bool.{_&&_};
-ghost use Prim.Native.Nat.{_≤_};
+ghost use Prim.Native.Nat.{_≤_, _<_};
+ghost use lib.ListN.{getD};
 ghost use Rattle.meaning.specs.Base.{any, someIn};
 ghost use Rattle.meaning.specs.Values.{signed};
 ghost use Rattle.meaning.specs.ByteLayouts.{pair};
 ghost use Rattle.meaning.specs.Processing.Queries as Queries;
-ghost use Rattle.words.specs.Words.{readable};
+ghost use Rattle.words.specs.Words.{readable, word32At};
+ghost use Rattle.slots.specs.Slots.{tableAt, Stands, blank};
 ghost use Rattle.terms.specs.Terms.{termMeant, termsMeant, queryMeant};
-ghost use Rattle.room.specs.Room.{Laid, rowMeant, liveRows, transitionIn};
+ghost use Rattle.room.specs.Room.{ROWS, Laid, rowMeant, liveRows, transitionIn};
 ghost use Rattle.query.specs.Chosen.{baseOf, shows as Chosen·shows, rowsFrom, Chose};
 ghost use Rattle.query.specs.Matches.{admits as Matches·admits, meets as Matches·meets, Narrows, WantedBy};
 use slots::Slot;
@@ -64,6 +66,18 @@ fn shows(source: usize, e: Slot) -> bool
 {
     if source < 4 {
         return words::wide(e.table) == source;
+    }
+    true
+}
+
+// Whether the slot i of where a source's rows stand is one of the source's: asked before the row is read.
+fn shown_at(room: &[u8], base: usize, source: usize, i: usize) -> bool
+    requires { ⌜ Stands base ROWS (now room) ⌝ }
+    requires { ⌜ i < word32At (now room) base ⌝ }
+    ensures { λ r. ⌜ r ≡ Chosen·shows source (getD (tableAt (now (room .entry)) base) i blank) ⌝ }
+{
+    if source < 4 {
+        return slots::table_at(room, base, room::ROWS, i) == source;
     }
     true
 }
@@ -274,29 +288,30 @@ fn terms_hold(room: &[u8], book: &[u8], triggers: usize, t: Terms, e: Slot) -> b
     true
 }
 
-// Whether a row that stands where a source's rows do is one that the query yields.
-fn is_chosen(room: &[u8], book: &[u8], triggers: usize, q: Query, e: Slot) -> bool
+// Whether all terms hold of the row i of a table. It reads the row for itself, so that a row that is chosen moves as it stands.
+fn hold_at(room: &[u8], book: &[u8], triggers: usize, t: Terms, base: usize, i: usize) -> bool
     requires { ⌜ Laid (now room) ⌝ }
-    ensures { λ r. ⌜ r ≡ (Chosen·shows (q .source) e && Queries.allHold (transitionIn (now (room .entry))) (liveRows (now (room .entry))) (termsMeant (now (book .entry)) triggers (q .terms)) (rowMeant e)) ⌝ }
+    requires { ⌜ Stands base ROWS (now room) ⌝ }
+    requires { ⌜ i < word32At (now room) base ⌝ }
+    ensures { λ r. ⌜ r ≡ Queries.allHold (transitionIn (now (room .entry))) (liveRows (now (room .entry))) (termsMeant (now (book .entry)) triggers t) (rowMeant (getD (tableAt (now (room .entry)) base) i blank)) ⌝ }
 {
-    if !shows(q.source, e) {
-        return false;
-    }
-    let terms = q.terms;
-    terms_hold(room, book, triggers, terms, e)
+    let e = slots::slot_at(room, base, room::ROWS, i);
+    terms_hold(room, book, triggers, t, e)
 }
 
-// Whether a query yields a row.
+// Whether a query yields a row. Where it has no terms, nothing but the table is asked.
 pub fn yields(room: &[u8], book: &[u8], triggers: usize, q: Query) -> bool
     requires { ⌜ Laid (now room) ⌝ }
     ensures { λ r. ⌜ r ≡ someIn (Queries.chosen (transitionIn (now (room .entry))) (liveRows (now (room .entry))) (queryMeant (now (book .entry)) triggers q)) ⌝ }
 {
+    let free = q.terms.count == 0;
     let base = base_of(q.source);
     let size = slots::size(room, base);
     let mut left = size;
     while 0 < left {
-        let e = slots::slot_at(room, base, room::ROWS, size - left);
-        if is_chosen(room, book, triggers, q, e) {
+        if shown_at(room, base, q.source, size - left)
+            && (free || hold_at(room, book, triggers, q.terms, base, size - left))
+        {
             return true;
         }
         left -= 1;
@@ -304,18 +319,21 @@ pub fn yields(room: &[u8], book: &[u8], triggers: usize, q: Query) -> bool
     false
 }
 
-// The rows that a query yields, by rising handle, become the chosen ones.
+// The rows that a query yields, by rising handle, become the chosen ones. Where it has no terms, nothing but the table is asked.
 pub fn choose(room: &mut [u8], book: &[u8], triggers: usize, q: Query)
     requires { ⌜ Laid (now room) ⌝ }
     ensures { λ _. ⌜ Chose (now (room .entry)) (now (room .exit)) (queryMeant (now (book .entry)) triggers q) ⌝ }
 {
     slots::empty(room, room::CHOSEN, room::ROWS);
+    let free = q.terms.count == 0;
     let base = base_of(q.source);
     let size = slots::size(room, base);
     let mut left = size;
     while 0 < left {
-        let e = slots::slot_at(room, base, room::ROWS, size - left);
-        if is_chosen(room, book, triggers, q, e) {
+        if shown_at(room, base, q.source, size - left)
+            && (free || hold_at(room, book, triggers, q.terms, base, size - left))
+        {
+            let e = slots::slot_at(room, base, room::ROWS, size - left);
             slots::push(room, room::CHOSEN, room::ROWS, e);
         }
         left -= 1;

@@ -84,6 +84,15 @@ pub fn slot_at(room: &[u8], base: usize, most: usize, i: usize) -> Slot
     load(room, base + HEAD + SLOT * i)
 }
 
+// The field `table` of the slot i of the table at a base, without the rest of it.
+pub fn table_at(room: &[u8], base: usize, most: usize, i: usize) -> usize
+    requires { ⌜ Stands base most (now room) ⌝ }
+    requires { ⌜ i < word32At (now room) base ⌝ }
+    ensures { λ r. ⌜ r ≡ getD (tableAt (now (room .entry)) base) i blank .table ⌝ }
+{
+    (words::word32(room, base + HEAD + SLOT * i + 4) / 256 % 256) as usize
+}
+
 // How many slots at the front of a table by rising handle have a handle below another: by halving.
 pub fn place(room: &[u8], base: usize, most: usize, handle: u32) -> usize
     requires { ⌜ Stands base most (now room) ⌝ }
