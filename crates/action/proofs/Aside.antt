@@ -1,7 +1,6 @@
 -- A change of the chosen rows and of those worked out, and of nothing else, is aside from what the room represents: live rows, next handle,
 -- transition tables and what waits stand elsewhere. So what acts after such a change acts from the room before it.
 use mathlib.Core.Path.{_≡_, ap, _∙_}
-use mathlib.Core.Bool.{Bool}
 use mathlib.Core.List.{List, []}
 use Prim.Native.Nat.{ℕ}
 use native.Mathlib.Omega.{arith}
@@ -66,7 +65,7 @@ module _ {xs ys : List ℕ} (l : Laid xs) (a : Aside xs ys) where
   beyond-aside : Kept END (length xs) xs ys
   beyond-aside = record { len = a .frame .len; same = λ i b h. a .frame .above i (omega arith) }
 
-  pub represents-aside : {active : List Bool} {s : State} → Bytes ys → Represents xs active s → Represents ys active s
+  pub represents-aside : {tables : List ℕ} {s : State} → Bytes ys → Represents xs tables s → Represents ys tables s
   unfolding waitsIn
   represents-aside bytes p =
       record {
@@ -74,11 +73,12 @@ module _ {xs ys : List ℕ} (l : Laid xs) (a : Aside xs ys) where
         bytes = bytes;
         next = word-kept-below (a .frame) NEXT (omega arith) ∙ p .next;
         rows = live-aside ∙ p .rows;
-        waiting = λ k h t.
-            ap waitMeant (table-kept-above (a .frame) (waitAt k) ENTRIES (l .waits k h) (omega arith)) ∙ p .waiting k h t;
+        ended = p .ended;
+        waiting = λ k h.
+            ap waitMeant (table-kept-above (a .frame) (waitAt k) ENTRIES (l .waits k h) (omega arith)) ∙ p .waiting k h;
       }
 
-pub running-aside : {xs ys : List ℕ} {active : List Bool} → Aside xs ys → Bytes ys → Running xs active → Running ys active
+pub running-aside : {xs ys tables : List ℕ} → Aside xs ys → Bytes ys → Running xs tables → Running ys tables
 running-aside a bytes run =
     record {
       start = run .start;
@@ -89,9 +89,9 @@ running-aside a bytes run =
 
 -- ---- What acts after it
 
-module _ {xs ys : List ℕ} {active : List Bool} (l : Laid xs) (a : Aside xs ys) where
+module _ {xs ys tables : List ℕ} (l : Laid xs) (a : Aside xs ys) where
   pub acts-after : {zs : List ℕ} {f g : Image → Result} {r : Step} → Bytes ys
-      → ((s : State) → Represents xs active s → g (s .image) ≡ f (s .image)) → Acts ys zs active f r → Acts xs zs active g r
+      → ((s : State) → Represents xs tables s → g (s .image) ≡ f (s .image)) → Acts ys zs tables f r → Acts xs zs tables g r
   acts-after {zs} {f} {g} {r} bytes same act =
       let len : length ys ≡ length xs = a .frame .len in
       let kept : Kept END (length xs) ys zs = rw len at (act .beyond) in
@@ -103,8 +103,8 @@ module _ {xs ys : List ℕ} {active : List Bool} (l : Laid xs) (a : Aside xs ys)
       }
 
   pub fails-after : {g : Image → Result} → Bytes ys → (reason : Reason)
-      → ((s : State) → Represents xs active s → g (s .image) ≡ ends (failed (reasonMeant reason)) [])
-      → Acts xs ys active g (Failed reason)
+      → ((s : State) → Represents xs tables s → g (s .image) ≡ ends (failed (reasonMeant reason)) [])
+      → Acts xs ys tables g (Failed reason)
   fails-after bytes reason same =
       record {
         laid = a .laid;

@@ -1,6 +1,5 @@
 -- What a fitting operation or action says of its parts, by its one constructor, and that a rollback ends the run with nothing changed.
 use mathlib.Core.Path.{_≡_, refl}
-use mathlib.Core.Bool.{Bool}
 use mathlib.Core.List.{List, []}
 use Prim.Native.Nat.{ℕ, _≤_}
 use lib.Count.{ones}
@@ -35,7 +34,7 @@ pub updateRows-fits : {t mask : ℕ} {es : List Expression} {ts : List Term} →
     → (t ≤ 3) × (mask ≤ 15) × (length es ≡ ones mask)
 updateRows-fits (updateRowsFits a b c) = (a, b, c)
 
-pub rolled-back : {xs : List ℕ} {active : List Bool} → Running xs active → Acts xs xs active (λ m. ends rolledBack []) RolledBack
+pub rolled-back : {xs tables : List ℕ} → Running xs tables → Acts xs xs tables (λ m. ends rolledBack []) RolledBack
 rolled-back run =
     record {
       laid = run .represents .laid;

@@ -93,30 +93,31 @@ insertAll-by t vss m = go (ltb mostRows (length (m .rows) + length vss)) (ltb la
     go false true = refl
     go false false = refl
 
-insertAll-space : {xs : List ℕ} {active : List Bool} {s : State} (table n : ℕ) → n ≡ word32At xs WORKED → Represents xs active s
+insertAll-space : {xs tables : List ℕ} {s : State} (table n : ℕ) → n ≡ word32At xs WORKED → Represents xs tables s
     → insertAll table (valuesIn xs) (s .image) ≡ resultOf (spaceFor (length (tableAt xs LIVE)) (word32At xs NEXT) n) (insertions xs table)
 unfolding insertions
-insertAll-space {xs} {active} {s} table n sized p =
+insertAll-space {xs} {tables} {s} table n sized p =
     let len : length (valuesIn xs) ≡ n = values-length xs ∙ sym sized in
     insertAll-by table (valuesIn xs) (s .image) ∙ rw (live-length p, p .next, len)
 
 -- ---- One insert
 
-module _ {xs : List ℕ} {active : List Bool} (table : ℕ) (e : Slot) (proper : Proper (rowMeant (insertedSlot xs table e)))
+module _ {xs tables : List ℕ} (table : ℕ) (e : Slot) (proper : Proper (rowMeant (insertedSlot xs table e)))
     (room : length (tableAt xs LIVE) < ROWS) (left : word32At xs NEXT < lastHandle) where
-  insert-joinable : Running xs active → Joinable xs active (asEffect 1 0 (insertedSlot xs table e))
+  insert-joinable : Running xs tables → Joinable xs tables (asEffect 1 0 (insertedSlot xs table e))
   unfolding insertedSlot rowOf
   insert-joinable run =
       let new = insertedSlot xs table e in
       joinable (run .reached) (run .represents) (fits-insert (run .represents) new refl proper room left) (says-insert new)
 
-  insert-moves : {ys : List ℕ} → Bytes ys → Inserted xs ys active table e
-      → Moves xs ys active (inserts (rowMeant (insertedSlot xs table e)) ∷ [])
+  insert-moves : {ys : List ℕ} → Bytes ys → Inserted xs ys tables table e
+      → Moves xs ys tables (inserts (rowMeant (insertedSlot xs table e)) ∷ [])
   unfolding insertedSlot rowOf
   insert-moves bytes t =
       let new = insertedSlot xs table e in
       moves-one (inserts (rowMeant new)) t (λ start s r p.
-      (fits-insert p new refl proper room left, turned-insert r p bytes new (omega arith) t))
+      let fits = fits-insert p new refl proper room left in
+      (fits, turned-insert r p bytes new fits (omega arith) t))
 
 -- a slot of a table, as a row of another
 inserted-proper : (xs : List ℕ) → Bytes xs → (table : ℕ) → table ≤ 3 → (base i : ℕ)
@@ -139,9 +140,9 @@ inserted-proper xs bytes table t base i =
 
 -- ---- The loop
 
-pub record Inserting (xs zs : List ℕ) (active : List Bool) (table n left : ℕ) : Type 0 where
+pub record Inserting (xs zs tables : List ℕ) (table n left : ℕ) : Type 0 where
   pub few : left ≤ n
-  pub moves : Moves xs zs active (take (n - left) (insertions xs table))
+  pub moves : Moves xs zs tables (take (n - left) (insertions xs table))
   pub live : length (tableAt zs LIVE) ≡ length (tableAt xs LIVE) + (n - left)
   pub next : word32At zs NEXT ≡ word32At xs NEXT + (n - left)
 
@@ -166,15 +167,15 @@ space-roomy xs n e = go (ltb mostRows live) refl (ltb lastHandle next) refl e
     go false p true q e = absurd (let z : _≡_ {A = ℕ} 0 1 = cc in omega arith)
     go false p false q e = record { live = ltb-false mostRows live p; next = ltb-false lastHandle next q }
 
-pub inserting-start : (xs : List ℕ) (active : List Bool) (table n : ℕ) → Inserting xs xs active table n n
-inserting-start xs active table n =
+pub inserting-start : (xs tables : List ℕ) (table n : ℕ) → Inserting xs xs tables table n n
+inserting-start xs tables table n =
     let z : n - n ≡ 0 = omega arith in
     record { few = omega arith; moves = rw z moves-none; live = omega arith; next = omega arith }
 
-module _ {xs zs : List ℕ} {active : List Bool} {table n left : ℕ} (run : Running xs active) (t : table ≤ 3)
+module _ {xs zs tables : List ℕ} {table n left : ℕ} (run : Running xs tables) (t : table ≤ 3)
     (sized : n ≡ word32At xs WORKED) (space : spaceFor (length (tableAt xs LIVE)) (word32At xs NEXT) n ≡ Enough)
-    (inv : Inserting xs zs active table n left) where
-  pub inserting-running : Running zs active
+    (inv : Inserting xs zs tables table n left) where
+  pub inserting-running : Running zs tables
   inserting-running = moves-running run (inv .moves)
 
   worked-same : tableAt zs WORKED ≡ tableAt xs WORKED
@@ -198,7 +199,7 @@ module _ {xs zs : List ℕ} {active : List Bool} {table n left : ℕ} (run : Run
     pub inserting-handles : word32At zs NEXT < lastHandle
     inserting-handles = let r = space-roomy xs n space in omega (arith, inv .few, inv .next, r .next)
 
-    pub inserting-joinable : Joinable zs active (asEffect 1 0 (insertedSlot zs k e))
+    pub inserting-joinable : Joinable zs tables (asEffect 1 0 (insertedSlot zs k e))
     inserting-joinable = insert-joinable k e proper inserting-room inserting-handles inserting-running
 
     is-next : getD (insertions xs table) (n - left) nothing ≡ inserts (rowMeant (insertedSlot zs k e))
@@ -208,7 +209,7 @@ module _ {xs zs : List ℕ} {active : List Bool} {table n left : ℕ} (run : Run
         let b : n - left < length (tableAt xs WORKED) = omega (arith, inv .few, table-length xs WORKED) in
         insertion-at xs table (n - left) b ∙ rw (read, q, worked-same, inv .next)
 
-    pub inserting-next : {ws : List ℕ} → Bytes ws → Inserted zs ws active k e → Inserting xs ws active table n (left - 1)
+    pub inserting-next : {ws : List ℕ} → Bytes ws → Inserted zs ws tables k e → Inserting xs ws tables table n (left - 1)
     inserting-next {ws} bytes t′ =
         let b : n - left < length (insertions xs table) = omega (arith, inv .few, table-length xs WORKED, insertions-length xs table) in
         let u = turn (inv .few) some in
@@ -223,7 +224,7 @@ module _ {xs zs : List ℕ} {active : List Bool} {table n left : ℕ} (run : Run
           next = omega (arith, t′ .handle, inv .next);
         }
 
-  pub inserting-done : left ≤ 0 → Acts xs zs active (insertAll table (valuesIn xs)) Went
+  pub inserting-done : left ≤ 0 → Acts xs zs tables (insertAll table (valuesIn xs)) Went
   unfolding resultOf
   inserting-done none =
       let all : take (n - left) (insertions xs table) ≡ insertions xs table =
@@ -232,9 +233,9 @@ module _ {xs zs : List ℕ} {active : List Bool} {table n left : ℕ} (run : Run
 
 -- ---- No space
 
-module _ {xs : List ℕ} {active : List Bool} (table n : ℕ) (run : Running xs active) (sized : n ≡ word32At xs WORKED) where
+module _ {xs tables : List ℕ} (table n : ℕ) (run : Running xs tables) (sized : n ≡ word32At xs WORKED) where
   pub full-acts : spaceFor (length (tableAt xs LIVE)) (word32At xs NEXT) n ≡ Full
-      → Acts xs xs active (insertAll table (valuesIn xs)) (Failed reason.Full)
+      → Acts xs xs tables (insertAll table (valuesIn xs)) (Failed reason.Full)
   unfolding resultOf Actions.fails
   full-acts e =
       record {
@@ -245,7 +246,7 @@ module _ {xs : List ℕ} {active : List Bool} (table n : ℕ) (run : Running xs 
       }
 
   pub used-up-acts : spaceFor (length (tableAt xs LIVE)) (word32At xs NEXT) n ≡ UsedUp
-      → Acts xs xs active (insertAll table (valuesIn xs)) (Failed reason.HandlesUsedUp)
+      → Acts xs xs tables (insertAll table (valuesIn xs)) (Failed reason.HandlesUsedUp)
   unfolding resultOf Actions.fails
   used-up-acts e =
       record {

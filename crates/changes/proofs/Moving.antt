@@ -1,7 +1,6 @@
 -- Operations made one after another on the room: each leads from a room that represents a state to one that represents the state after it,
 -- and leaves the transition tables, the chosen rows and those worked out as they were. So all of an action's operations do.
 use mathlib.Core.Path.{_≡_}
-use mathlib.Core.Bool.{Bool}
 use mathlib.Core.List.{List, [], _∷_, _++_}
 use Prim.Native.Nat.{ℕ, suc, _-_, _≤_, _<_}
 use native.Mathlib.Omega.{arith}
@@ -23,27 +22,27 @@ use Rattle.changes.specs.declared.Step.the-variants.{Went}
 use Rattle.changes.specs.Steps.{goesOn, Acts}
 
 -- operations fit the image of a state, and a room represents the state after them
-pub record Leads (ys : List ℕ) (active : List Bool) (os : List RowOperation) (s : State) : Type 0 where
+pub record Leads (ys tables : List ℕ) (os : List RowOperation) (s : State) : Type 0 where
   pub made : Made (s .image) os
-  pub represents : Represents ys active (madeAll os s)
+  pub represents : Represents ys tables (madeAll os s)
 
-pub record Moves (xs ys : List ℕ) (active : List Bool) (os : List RowOperation) : Type 0 where
+pub record Moves (xs ys tables : List ℕ) (os : List RowOperation) : Type 0 where
   pub between : Kept INSERTED WAITS xs ys
   pub beyond : Kept END (length xs) xs ys
-  pub leads : (start : Image) (s : State) → Reached start s → Represents xs active s → Leads ys active os s
+  pub leads : (start : Image) (s : State) → Reached start s → Represents xs tables s → Leads ys tables os s
 
-pub moves-none : {xs : List ℕ} {active : List Bool} → Moves xs xs active []
-moves-none {xs} {active} =
+pub moves-none : {xs tables : List ℕ} → Moves xs xs tables []
+moves-none {xs} {tables} =
     record {
       between = kept-refl;
       beyond = kept-refl;
       leads = λ start s r p. record { made = noneMade; represents = rw (madeAll-none s) p };
     }
 
-pub moves-one : {xs ys : List ℕ} {active : List Bool} {live : List Slot} {next : ℕ} {op : Slot} (o : RowOperation)
-    → Turned xs ys active live next op
-    → ((start : Image) (s : State) → Reached start s → Represents xs active s → Fits (s .image) o × Represents ys active (madeOne o s))
-    → Moves xs ys active (o ∷ [])
+pub moves-one : {xs ys tables : List ℕ} {live : List Slot} {next : ℕ} {op : Slot} (o : RowOperation)
+    → Turned xs ys tables live next op
+    → ((start : Image) (s : State) → Reached start s → Represents xs tables s → Fits (s .image) o × Represents ys tables (madeOne o s))
+    → Moves xs ys tables (o ∷ [])
 moves-one o t f =
     record {
       between = t .between;
@@ -53,8 +52,8 @@ moves-one o t f =
           record { made = more (g .0) noneMade; represents = rw (madeAll-one o s) (g .1) };
     }
 
-pub moves-more : {xs ys zs : List ℕ} {active : List Bool} {os ps : List RowOperation} → Moves xs ys active os → Moves ys zs active ps
-    → Moves xs zs active (os ++ ps)
+pub moves-more : {xs ys zs tables : List ℕ} {os ps : List RowOperation} → Moves xs ys tables os → Moves ys zs tables ps
+    → Moves xs zs tables (os ++ ps)
 unfolding madeAll
 moves-more {xs} {ys} {zs} {os = os} {ps = ps} f g =
     let same : length ys ≡ length xs = f .beyond .len in
@@ -68,12 +67,12 @@ moves-more {xs} {ys} {zs} {os = os} {ps = ps} f g =
     }
 
 -- the operation at a place, after all before it
-pub moves-next : {xs ys zs : List ℕ} {active : List Bool} (os : List RowOperation) (i : ℕ) (d o : RowOperation) → i < length os
-    → getD os i d ≡ o → Moves xs ys active (take i os) → Moves ys zs active (o ∷ []) → Moves xs zs active (take (suc i) os)
+pub moves-next : {xs ys zs tables : List ℕ} (os : List RowOperation) (i : ℕ) (d o : RowOperation) → i < length os
+    → getD os i d ≡ o → Moves xs ys tables (take i os) → Moves ys zs tables (o ∷ []) → Moves xs zs tables (take (suc i) os)
 moves-next os i d o b e f g = rw (take-suc os i d b, e) (moves-more f g)
 
-pub moves-running : {xs ys : List ℕ} {active : List Bool} {os : List RowOperation} → Running xs active → Moves xs ys active os
-    → Running ys active
+pub moves-running : {xs ys tables : List ℕ} {os : List RowOperation} → Running xs tables → Moves xs ys tables os
+    → Running ys tables
 moves-running {os = os} run f =
     let l = f .leads (run .start) (run .state) (run .reached) (run .represents) in
     record {
@@ -83,8 +82,8 @@ moves-running {os = os} run f =
       represents = l .represents;
     }
 
-pub moves-acts : {xs ys : List ℕ} {active : List Bool} (os : List RowOperation) {f : Image → Result} → Running xs active
-    → Moves xs ys active os → ((s : State) → Represents xs active s → f (s .image) ≡ went os) → Acts xs ys active f Went
+pub moves-acts : {xs ys tables : List ℕ} (os : List RowOperation) {f : Image → Result} → Running xs tables
+    → Moves xs ys tables os → ((s : State) → Represents xs tables s → f (s .image) ≡ went os) → Acts xs ys tables f Went
 moves-acts os run m is =
     record {
       laid = moves-running run m .represents .laid;

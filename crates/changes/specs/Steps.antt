@@ -1,6 +1,5 @@
 -- What an operation of the log or an action of a rule leaves in the working room, by what the specification says of it.
 use mathlib.Core.Path.{_≡_}
-use mathlib.Core.Bool.{Bool}
 use mathlib.Core.List.{List, map}
 use Prim.Native.Nat.{ℕ}
 use lib.ListN.{length}
@@ -27,19 +26,19 @@ reasonMeant reason.SumOutOfRange = Covers.Reason.sumOutOfRange
 
 -- the room after a result: it went on, or the run ends; either way the room represents the state with the operations made (none where it
 -- failed)
-pub data Follows (ys : List ℕ) (active : List Bool) (s : State) : Result → Step → Type 0 where
-  goesOn : {os : List RowOperation} → Represents ys active (madeAll os s) → Follows ys active s (went os) Went
-  rollsBack : {os : List RowOperation} → Represents ys active (madeAll os s) → Follows ys active s (ends rolledBack os) RolledBack
-  fails : {r : Reason} {os : List RowOperation} → Represents ys active (madeAll os s)
-      → Follows ys active s (ends (failed (reasonMeant r)) os) (Failed r)
+pub data Follows (ys tables : List ℕ) (s : State) : Result → Step → Type 0 where
+  goesOn : {os : List RowOperation} → Represents ys tables (madeAll os s) → Follows ys tables s (went os) Went
+  rollsBack : {os : List RowOperation} → Represents ys tables (madeAll os s) → Follows ys tables s (ends rolledBack os) RolledBack
+  fails : {r : Reason} {os : List RowOperation} → Represents ys tables (madeAll os s)
+      → Follows ys tables s (ends (failed (reasonMeant r)) os) (Failed r)
 
 -- the step that the specification says, for every state that the room represents; transition tables stay, and so does what stands past
 -- the tables
-pub record Acts (xs ys : List ℕ) (active : List Bool) (f : Image → Result) (r : Step) : Type 0 where
+pub record Acts (xs ys tables : List ℕ) (f : Image → Result) (r : Step) : Type 0 where
   pub laid : Laid ys
   pub shown : transitionIn ys ≡ transitionIn xs
   pub beyond : Kept END (length xs) xs ys
-  pub follows : (start : Image) (s : State) → Reached start s → Represents xs active s → Follows ys active s (f (s .image)) r
+  pub follows : (start : Image) (s : State) → Reached start s → Represents xs tables s → Follows ys tables s (f (s .image)) r
 
 -- the values of the rows worked out
 unfoldable pub valuesIn : List ℕ → List (List ℤ)
@@ -52,7 +51,7 @@ pub record Rewritten (xs : List ℕ) (mask : ℕ) : Type 0 where
   pub rows : rowsMeant (tableAt xs WORKED) ≡ rowsWith mask (rowsMeant (tableAt xs CHOSEN)) values
 
 -- the update of the chosen rows, for whatever values they were worked out from
-pub record UpdatesAll (xs ys : List ℕ) (active : List Bool) (mask : ℕ) : Type 0 where
+pub record UpdatesAll (xs ys tables : List ℕ) (mask : ℕ) : Type 0 where
   pub acts : (vss : List (List ℤ)) → length vss ≡ length (tableAt xs CHOSEN)
       → rowsMeant (tableAt xs WORKED) ≡ rowsWith mask (rowsMeant (tableAt xs CHOSEN)) vss
-      → Acts xs ys active (λ m. updateAll mask (rowsMeant (tableAt xs CHOSEN)) vss) Went
+      → Acts xs ys tables (λ m. updateAll mask (rowsMeant (tableAt xs CHOSEN)) vss) Went

@@ -1,7 +1,6 @@
 -- A room in which a rule's transition tables were drawn still represents a state that a run reaches. The state before may have no mark for
 -- the rule: one with marks at 0 behind the others stands for it, since a missing mark counts as 0.
 use mathlib.Core.Path.{_≡_, refl, sym, ap, _∙_}
-use mathlib.Core.Bool.{Bool}
 use mathlib.Core.List.{List, [], _∷_, _++_}
 use Prim.Native.Nat.{ℕ, zero, suc, _<_}
 use native.Mathlib.Omega.{arith}
@@ -9,6 +8,7 @@ use lib.ListN.{length, getD, drop, replicate, length-append, length-replicate}
 use Rattle.meaning.specs.Covers.{Rule, Image}
 use Rattle.meaning.specs.RowOperations.{netEffect}
 use Rattle.meaning.specs.Processing.{State, since, waits}
+use Rattle.meaning.proofs.OwnTable.{ownOf}
 use Rattle.words.specs.Words.{Bytes}
 use Rattle.words.proofs.Laws.{all-same}
 use Rattle.room.specs.Drawn.{Drew}
@@ -43,19 +43,20 @@ marked-reached {s = s} r k =
       marked = λ j. rw (zeros-follow (s .marks) (suc k) j) (r .marked j);
     }
 
-marked-represents : {s : State} {xs : List ℕ} {active : List Bool} → Represents xs active s → (k : ℕ) → Represents xs active (marked s k)
+marked-represents : {s : State} {xs tables : List ℕ} → Represents xs tables s → (k : ℕ) → Represents xs tables (marked s k)
 unfolding marked
-marked-represents {s} p k =
+marked-represents {s} {tables = tables} p k =
     record {
       laid = p .laid;
       bytes = p .bytes;
       next = p .next;
       rows = p .rows;
-      waiting = λ j b a. p .waiting j b a ∙ sym (marked-waits s k j);
+      ended = p .ended;
+      waiting = λ j b. p .waiting j b ∙ ap (ownOf (getD tables j 0)) (sym (marked-waits s k j));
     }
 
-pub running-drawn : {xs ys : List ℕ} {active : List Bool} {k : ℕ} {rule : Rule} → Running xs active → Drew xs ys k rule → Bytes ys
-    → Running ys active
+pub running-drawn : {xs ys tables : List ℕ} {k : ℕ} {rule : Rule} → Running xs tables → Drew xs ys k rule → Bytes ys
+    → Running ys tables
 running-drawn {k = k} run d bytes =
     record {
       start = run .start;

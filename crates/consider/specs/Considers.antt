@@ -17,5 +17,5 @@ use Rattle.plan.specs.Plans.{rulesIn}
 pub record Considers (xs ys book : List ℕ) (plan : Plan) (k : ℕ) (r : Step) : Type 0 where
   pub laid : Laid ys
   pub beyond : Kept END (length xs) xs ys
-  pub follows : (start : Image) (s : State) → Reached start s → Represents xs (plan .active) s → k < length (s .marks)
-      → Follows ys (plan .active) (seen s k) (consider (rulesIn book (plan .count)) s k) r
+  pub follows : (start : Image) (s : State) → Reached start s → Represents xs (plan .tables) s → k < length (s .marks)
+      → Follows ys (plan .tables) (seen s k) (consider (rulesIn book (plan .count)) s k) r

@@ -1,7 +1,6 @@
 // A consideration: what waited for the rule becomes its transition tables, and is emptied; if its condition
 // holds, its actions run.
 ghost use mathlib.Core.Path.{_≡_};
-ghost use mathlib.Core.Bool.{true, false};
 ghost use Prim.Native.Nat.{_≤_, _<_};
 ghost use lib.ListN.{getD};
 ghost use Rattle.meaning.specs.Processing as Processing;
@@ -28,14 +27,14 @@ fn condition_holds(room: &[u8], book: &[u8], triggers: usize, c: Condition) -> b
 
 // Active rule k of a book with a plan.
 pub fn consider(room: &mut [u8], book: &[u8], plan: Plan, k: usize) -> Step
-    requires { ⌜ Running (now room) (plan .active) ⌝ }
+    requires { ⌜ Running (now room) (plan .tables) ⌝ }
     requires { ⌜ (plan .count ≤ 16) × (k < plan .count) ⌝ }
     requires { ⌜ Planned (now book) (plan .count) plan ⌝ }
-    requires { ⌜ getD (plan .active) k false ≡ true ⌝ }
+    requires { ⌜ getD (plan .tables) k 0 ≤ 3 ⌝ }
     ensures { λ r. ⌜ Considers (now (room .entry)) (now (room .exit)) (now (book .entry)) plan k r ⌝ }
 {
     let starts = plan.starts;
-    let active = plan.active;
+    let tables = plan.tables;
     match book::rule_at(book, plan.count, starts[k]) {
         RuleRead::Is { rule, next: _ } => {
             let head = rule.head;
@@ -43,7 +42,7 @@ pub fn consider(room: &mut [u8], book: &[u8], plan: Plan, k: usize) -> Step
             let actions = rule.actions;
             transition::draw(room, k, trigger::watch(head));
             if condition_holds(room, book, head.triggers, condition) {
-                return series::run_actions(room, active, book, head.triggers, actions);
+                return series::run_actions(room, tables, book, head.triggers, actions);
             }
             Step::Went
         }

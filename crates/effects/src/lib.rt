@@ -19,6 +19,9 @@ use slots::Slot;
 // 1 inserted, 2 deleted, 3 updated; 4 marks a join that no run can reach.
 const JOIN: [u8; 16] = [0, 1, 2, 3, 1, 4, 0, 1, 2, 4, 4, 4, 3, 4, 2, 3];
 
+// What stands for the table of a rule that is not active; more than that stands past the last rule.
+const INACTIVE: u8 = 4;
+
 fn join_kind(a: u8, b: u8) -> u8
     ensures { λ r. ⌜ r ≡ joinKind a b ⌝ }
 {
@@ -69,15 +72,22 @@ fn join_slot(a: Slot, b: Slot) -> Slot
     a
 }
 
-// Whether an update leaves what was before as it was: the row is inserted, or updated in its columns.
-fn stays(a: Slot, b: Slot) -> bool
-    ensures { λ r. ⌜ (r ≡ true → (0 < a .kind) × (joinSlot a b ≡ a)) ⌝ }
+// Whether an operation is an update that leaves a table of what waits as it was: the effect at a place is of its handle, and the row is
+// inserted, or updated in its columns.
+fn stays(room: &[u8], base: usize, i: usize, op: Slot) -> bool
+    requires { ⌜ Stands base 128 (now room) ⌝ }
+    requires { ⌜ Sorted (tableAt (now room) base) ⌝ }
+    ensures { λ r. ⌜ (r ≡ true → Holds base 128 (now (room .entry)) (now (room .entry)) (joinSlots op (tableAt (now (room .entry)) base))) ⌝ }
 {
-    if b.kind == 3 {
-        if a.kind == 3 {
-            return united(a.mask, b.mask) == a.mask;
+    if op.kind == 3 {
+        if slots::is_at(room, base, room::ENTRIES, i, op.handle) {
+            let kind = slots::kind_at(room, base, room::ENTRIES, i);
+            if kind == 3 {
+                let mask = slots::mask_at(room, base, room::ENTRIES, i);
+                return mask | words::wide(op.mask) == mask;
+            }
+            return kind == 1;
         }
-        return a.kind == 1;
     }
     false
 }
@@ -85,14 +95,15 @@ fn stays(a: Slot, b: Slot) -> bool
 // The effect at a place of a table joins a later one on the same handle.
 fn join_at(room: &mut [u8], base: usize, i: usize, op: Slot)
     requires { ⌜ Stands base 128 (now room) ⌝ }
+    requires { ⌜ Sorted (tableAt (now room) base) ⌝ }
     requires { ⌜ i ≡ placeIn (op .handle) (tableAt (now room) base) ⌝ }
     requires { ⌜ hit (op .handle) i (tableAt (now room) base) ≡ true ⌝ }
     ensures { λ _. ⌜ Holds base 128 (now (room .entry)) (now (room .exit)) (joinSlots op (tableAt (now (room .entry)) base)) ⌝ }
 {
-    let e = slots::slot_at(room, base, room::ENTRIES, i);
-    if stays(e, op) {
+    if stays(room, base, i, op) {
         return;
     }
+    let e = slots::slot_at(room, base, room::ENTRIES, i);
     let x = join_slot(e, op);
     if x.kind == 0 {
         slots::remove_at(room, base, room::ENTRIES, i);
@@ -101,25 +112,16 @@ fn join_at(room: &mut [u8], base: usize, i: usize, op: Slot)
     slots::put_at(room, base, room::ENTRIES, i, x);
 }
 
-// The place of a handle in a table; nothing is searched where it is the near one.
-fn place_near(room: &[u8], base: usize, near: usize, handle: u32) -> usize
-    requires { ⌜ Stands base 128 (now room) ⌝ }
-    requires { ⌜ Sorted (tableAt (now room) base) ⌝ }
-    ensures { λ r. ⌜ r ≡ placeIn handle (tableAt (now (room .entry)) base) ⌝ }
-{
-    if slots::is_at(room, base, room::ENTRIES, near, handle) {
-        return near;
-    }
-    slots::place(room, base, room::ENTRIES, handle)
-}
-
 // An operation joins one table of what waits. The answer is its place, the first to try in the next table.
 fn join_table(room: &mut [u8], base: usize, near: usize, op: Slot) -> usize
     requires { ⌜ Stands base 128 (now room) ⌝ }
     requires { ⌜ Takes op (tableAt (now room) base) ⌝ }
     ensures { λ _. ⌜ Holds base 128 (now (room .entry)) (now (room .exit)) (joinSlots op (tableAt (now (room .entry)) base)) ⌝ }
 {
-    let i = place_near(room, base, near, op.handle);
+    if stays(room, base, near, op) {
+        return near;
+    }
+    let i = slots::place_near(room, base, room::ENTRIES, near, op.handle);
     if slots::is_at(room, base, room::ENTRIES, i, op.handle) {
         join_at(room, base, i, op);
         return i;
@@ -128,15 +130,18 @@ fn join_table(room: &mut [u8], base: usize, near: usize, op: Slot) -> usize
     i
 }
 
-// An operation joins what waits for every active rule. Inactive rules cost nothing.
-pub fn join_all(room: &mut [u8], active: [bool; 16], op: Slot)
-    requires { ⌜ Joinable (now room) active op ⌝ }
-    ensures { λ _. ⌜ AllJoined (now (room .entry)) (now (room .exit)) active op ⌝ }
+// An operation joins what waits for each active rule on its own table: no other rule is woken by it, or shown it.
+pub fn join_all(room: &mut [u8], tables: [u8; 16], op: Slot)
+    requires { ⌜ Joinable (now room) tables op ⌝ }
+    ensures { λ _. ⌜ AllJoined (now (room .entry)) (now (room .exit)) tables op ⌝ }
 {
     let mut k: usize = 0;
     let mut near: usize = 0;
     while k < room::RULES {
-        if active[k] {
+        if INACTIVE < tables[k] {
+            return;
+        }
+        if op.table == tables[k] {
             near = join_table(room, room::WAITS + room::WAIT * k, near, op);
         }
         k += 1;

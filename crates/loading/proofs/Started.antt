@@ -1,13 +1,13 @@
 -- A room that was loaded represents the state at the start of a run: nothing is done, so nothing waits for any rule.
-use mathlib.Core.Bool.{Bool}
 use mathlib.Core.List.{List}
 use Prim.Native.Nat.{ℕ}
 use Rattle.meaning.specs.Covers.{Rule, Image}
 use Rattle.words.specs.Words.{Bytes}
+use Rattle.room.specs.Joins.{Ended}
 use Rattle.room.specs.Represents.{Represents}
 use Rattle.room.proofs.Marks.{starting, represents-starting}
 use Rattle.loading.specs.Loads.{Loaded}
 
-pub loaded-represents : (rules : List Rule) {start : Image} {xs ys : List ℕ} {active : List Bool} → Loaded start xs ys → Bytes ys
-    → Represents ys active (starting rules start)
-loaded-represents rules l bytes = represents-starting rules (l .laid) bytes (l .next) (l .rows) (λ k b a. l .empty k b)
+pub loaded-represents : (rules : List Rule) {start : Image} {xs ys tables : List ℕ} → Loaded start xs ys → Bytes ys → Ended tables
+    → Represents ys tables (starting rules start)
+loaded-represents rules l bytes ended = represents-starting rules (l .laid) bytes (l .next) (l .rows) (l .empty) ended

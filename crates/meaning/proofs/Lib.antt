@@ -18,6 +18,7 @@ pub mod JoinTable
 pub mod NetEffects
 pub mod Lives
 pub mod Capacity
+pub mod OwnTable
 -- The operations of a run fit
 pub mod Traces
 pub mod ActionsFit

@@ -17,7 +17,7 @@ use Rattle.meaning.specs.RowOperations.{effectOf, single, joinedOn, net}
 use Rattle.meaning.specs.Trace.{union, maskOn, masksOn, deletedIn, fromOutside, OnlyIn, Differs, stays, comes, goes, changes}
 use Rattle.meaning.specs.Theorems.{reachable}
 use Rattle.meaning.proofs.Made.{Sound, Fits, insertFits, deleteFits, updateFits, Made, more, Made.none as noneMade}
-use Rattle.meaning.proofs.Lists.{clash, eqb-self}
+use Rattle.meaning.proofs.Lists.{true-is-false, clash, eqb-self}
 use Rattle.meaning.proofs.Masks.{or-assoc, bit-or}
 use Rattle.meaning.proofs.JoinTable.{join-nothing}
 use Rattle.meaning.proofs.NetEffects.{single-other, single-own, net-one}
@@ -347,6 +347,50 @@ leads (more f k) a =
     let all = leads k (one .there) in
     record { reached = all .reached; by = lives-append (one .by) (all .by); there = all .there }
 
+-- ---- The table of a handle
+
+-- the effect, if it is something, is of the table
+abbrev pub OfTable : ℕ → Effect → Type 0
+OfTable t nothing = Unit {0}
+OfTable t (inserted u) = u ≡ t
+OfTable t (deleted r) = r .table ≡ t
+OfTable t (updated m r) = r .table ≡ t
+
+-- the table whose row an operation inserts, deletes or updates
+unfoldable pub tableOf : RowOperation → ℕ
+tableOf (inserts r) = r .table
+tableOf (deletes r) = r .table
+tableOf (updates m old new) = old .table
+
+-- the row that a handle is at, or is gone from, is of the table
+abbrev InTable : ℕ → Life → Type 0
+InTable t notGiven = Unit {0}
+InTable t (at r) = r .table ≡ t
+InTable t (gone r) = r .table ≡ t
+
+-- the effect is of the table where the handle is at the end
+between-table : {s e : Life} {u : Option ℕ} (t : ℕ) → After s e u → InTable t e → OfTable t (between s e u)
+unfolding all
+between-table t still i = tt
+between-table t come i = i
+between-table t passed i = tt
+between-table t same i = tt
+between-table t (altered o) i = sym (o .sameTable) ∙ i
+between-table t left i = i
+between-table t ended i = tt
+
+-- an operation finds its handle in its table, and leaves it there
+record InTables (t : ℕ) (s e : Life) : Type 0 where
+  found : InTable t s
+  kept : InTable t e
+
+own-table : {s e : Life} (o : RowOperation) → Lives (handleOf o) s (o ∷ []) e → InTables (tableOf o) s e
+unfolding tableOf
+own-table o (other p n l) = true-is-false (eqb-self (handleOf o)) n
+own-table o (born q rest) = record { found = tt; kept = refl }
+own-table o (turns q d rest) = record { found = refl; kept = d .sameTable }
+own-table o (dies q rest) = record { found = refl; kept = refl }
+
 -- ---- The laws, of operations that fit a sound image one after another
 
 -- the net effect of a stretch, told from outside
@@ -381,3 +425,19 @@ pub never-marked : {m : Image} (xs : List RowOperation) (o : RowOperation) (ys :
     → (h : ℕ) → joinKind (kind (net h xs)) (kind (single h o)) ≢ unreachable
 never-marked xs o ys s k h =
     rw (← net-one h o) (never-marked-stretch xs (o ∷ []) s (made-front (xs ++ (o ∷ [])) ys (rw append-assoc k)) h)
+
+-- what a stretch did to the handle of the operation after it is of the operation's table, and so is what both did
+pub record OneTable (xs : List RowOperation) (o : RowOperation) : Type 0 where
+  pub before : OfTable (tableOf o) (net (handleOf o) xs)
+  pub with-it : OfTable (tableOf o) (net (handleOf o) (xs ++ (o ∷ [])))
+
+pub one-table : {m : Image} (xs : List RowOperation) (o : RowOperation) → Sound m → Made m (xs ++ (o ∷ [])) → OneTable xs o
+one-table xs o s k =
+    let l = leads (made-front xs (o ∷ []) k) (somewhere s (handleOf o) .there) in
+    let n = leads (made-back xs (o ∷ []) k) (l .there) in
+    let i = own-table o (n .by) in
+    let both = lives-append (l .by) (n .by) in
+    record {
+      before = rw (net-between (l .by)) (between-table (tableOf o) (after (l .by)) (i .found));
+      with-it = rw (net-between both) (between-table (tableOf o) (after both) (i .kept));
+    }

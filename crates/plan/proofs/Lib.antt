@@ -1,2 +1,4 @@
+pub mod Fits
+pub mod Active
 pub mod Planning
 pub mod Listed

@@ -1,6 +1,5 @@
 -- The rule that is read where a plan says that it stands is the rule that is listed; so one can be read there.
 use mathlib.Core.Path.{_≡_, sym, ap, _∙_}
-use mathlib.Core.Bool.{Bool}
 use mathlib.Core.List.{List}
 use Prim.Native.Nat.{ℕ}
 use native.Mathlib.Omega.{arith}
@@ -12,7 +11,7 @@ use Rattle.book.specs.declared.RuleRead.the-variants as ruleRead
 use Rattle.book.specs.Books.{ruleMeant, ruleOr}
 use Rattle.plan.specs.Plans.{Placed}
 
-module _ {s : List ℕ} {n k start : ℕ} {active : Bool} (here : Placed s n k start active) {read : RuleRead}
+module _ {s : List ℕ} {n k start table : ℕ} (here : Placed s n k start table) {read : RuleRead}
     (e : ruleOr s read ≡ ByteLayouts.rule n s start) where
   pub read-listed : {rule : RuleStood} {after : ℕ} → read ≡ ruleRead.Is rule after → ruleMeant s rule ≡ here .rule
   unfolding ruleOr

@@ -1,10 +1,10 @@
--- What is read off a well-formed book once: where its rules stand, which are active, and their total order.
+-- What is read off a well-formed book once: where its rules stand, the own table of each active one, and their total order.
 use mathlib.Core.Path.{_≡_}
-use mathlib.Core.Bool.{Bool, false}
 use mathlib.Core.List.{List}
 use mathlib.Core.Option.{some}
 use Prim.Native.Nat.{ℕ, _≤_, _<_}
 use lib.ListN.{getD, getElem?}
+use Rattle.meaning.specs.Base.{if_then_else_}
 use Rattle.meaning.specs.Reading.{Read, bad, got}
 use Rattle.meaning.specs.Covers.{Rule}
 use Rattle.meaning.specs.ByteLayouts as ByteLayouts
@@ -18,9 +18,13 @@ use Rattle.plan.specs.declared.Outline.{Outline}
 abbrev pub rulesIn : List ℕ → ℕ → List Rule
 rulesIn s n = readable n (ByteLayouts.rule n) s 8
 
+-- the own table of a rule that is active; 4 for one that is not
+unfoldable pub ownTable : Rule → ℕ
+ownTable rule = if rule .active then rule .table else 4
+
 -- an outline of a rule that was read up to a place
 pub record OutlineOf (rule : Rule) (next : ℕ) (o : Outline) : Type 0 where
-  pub active : o .active ≡ rule .active
+  pub table : o .table ≡ ownTable rule
   pub precedes : o .precedes ≡ rule .precedes
   pub ends : o .next ≡ next
 
@@ -29,17 +33,18 @@ abbrev pub Outlined : Read Rule → Outline → Type 0
 Outlined bad o = Unit {0}
 Outlined (got rule next) o = OutlineOf rule next o
 
--- rule k stands at a place, and is active or not
-pub record Placed (s : List ℕ) (n k : ℕ) (start : ℕ) (active : Bool) : Type 0 where
+-- rule k stands at a place, and has an own table if it is active
+pub record Placed (s : List ℕ) (n k : ℕ) (start table : ℕ) : Type 0 where
   pub rule : Rule
   pub next : ℕ
   pub read : ByteLayouts.rule n s start ≡ got rule next
   pub listed : getElem? (rulesIn s n) k ≡ some rule
-  pub is : active ≡ rule .active
+  pub fits : rule .table ≤ 3
+  pub is : table ≡ ownTable rule
 
 -- a plan of a book of n rules
 pub record Planned (s : List ℕ) (n : ℕ) (plan : Plan) : Type 0 where
   pub count : plan .count ≡ n
-  pub placed : (k : ℕ) → k < n → Placed s n k (getD (plan .starts) k 0) (getD (plan .active) k false)
-  pub idle : (k : ℕ) → n ≤ k → getD (plan .active) k false ≡ false
+  pub placed : (k : ℕ) → k < n → Placed s n k (getD (plan .starts) k 0) (getD (plan .tables) k 0)
+  pub absent : (k : ℕ) → n ≤ k → k < 16 → getD (plan .tables) k 0 ≡ 5
   pub ordered : orderMeant n (plan .order) ≡ totalOrder (rulesIn s n)

@@ -1,34 +1,45 @@
-// What is read off a well-formed book once: where its rules stand, which are active, and their total order.
+// What is read off a well-formed book once: where its rules stand, the own table of each active one, and their total order.
 ghost use mathlib.Core.Path.{_≡_};
 ghost use Prim.Native.Nat.{_≤_};
 ghost use lib.ListN.{length};
 ghost use Rattle.meaning.specs.Reading.{got, many};
 ghost use Rattle.meaning.specs.ByteLayouts as ByteLayouts;
-ghost use Rattle.plan.specs.Plans.{rulesIn, Outlined, Planned};
+ghost use Rattle.book.specs.Books.{headRule};
+ghost use Rattle.plan.specs.Plans.{rulesIn, OutlineOf, Outlined, Planned};
 use book::Rule;
 use book::RuleRead;
 use order::Order;
 
+// `tables` has the own table of each rule, INACTIVE for a rule that is not active, and ABSENT past the last rule.
 pub struct Plan {
     pub count: usize,
     pub starts: [usize; 16],
-    pub active: [bool; 16],
+    pub tables: [u8; 16],
     pub order: Order,
 }
 
-// Of a rule: whether it is active, the rules that it precedes, and where it ends.
+pub const INACTIVE: u8 = 4;
+
+pub const ABSENT: u8 = 5;
+
+// Of a rule: its own table or INACTIVE, the rules that it precedes, and where it ends.
 struct Outline {
-    active: bool,
+    table: u8,
     precedes: usize,
     next: usize,
 }
 
 fn outline_of(rule: Rule, next: usize) -> Outline
-    ensures { λ r. ⌜ r ≡ record { active = rule .head .active; precedes = rule .head .precedes; next = next } ⌝ }
+    requires { ⌜ rule .head .table ≤ 3 ⌝ }
+    ensures { λ r. ⌜ OutlineOf (headRule (rule .head)) next r ⌝ }
 {
     let head = rule.head;
     Outline {
-        active: head.active,
+        table: if head.active {
+            head.table as u8
+        } else {
+            INACTIVE
+        },
         precedes: head.precedes,
         next,
     }
@@ -42,7 +53,7 @@ fn outline_at(s: &[u8], n: usize, at: usize) -> Outline
     match book::rule_at(s, n, at) {
         RuleRead::Is { rule, next } => outline_of(rule, next),
         RuleRead::Bad => Outline {
-            active: false,
+            table: INACTIVE,
             precedes: 0,
             next: at,
         },
@@ -56,7 +67,7 @@ pub fn plan_of(s: &[u8], n: usize) -> Plan
     ensures { λ r. ⌜ Planned (now (s .entry)) n r ⌝ }
 {
     let mut starts: [usize; 16] = [0; 16];
-    let mut active: [bool; 16] = [false; 16];
+    let mut tables: [u8; 16] = [ABSENT; 16];
     let mut masks: [usize; 16] = [0; 16];
     let mut here = book::FIRST;
     let mut left = n;
@@ -64,7 +75,7 @@ pub fn plan_of(s: &[u8], n: usize) -> Plan
         let rule = outline_at(s, n, here);
         let k = n - left;
         starts[k] = here;
-        active[k] = rule.active;
+        tables[k] = rule.table;
         masks[k] = rule.precedes;
         here = rule.next;
         left -= 1;
@@ -73,7 +84,7 @@ pub fn plan_of(s: &[u8], n: usize) -> Plan
     Plan {
         count: n,
         starts,
-        active,
+        tables,
         order,
     }
 }

@@ -1,6 +1,5 @@
 -- Before each turn: whatever the rest from here ends as, the whole ends as. So one turn more keeps it, and the last one gives the ending.
 use mathlib.Core.Path.{_≡_, refl, _∙_}
-use mathlib.Core.Bool.{true, false}
 use mathlib.Core.List.{List}
 use Prim.Native.Nat.{ℕ, _+_, _-_, _≤_, _<_}
 use native.Mathlib.Omega.{arith}
@@ -37,7 +36,7 @@ pub going-start : {xs book : List ℕ} {plan : Plan} (limit : ℕ) → Midway xs
 going-start limit m = record { same = refl; within = omega arith; beyond = kept-refl; midway = m; rest = λ ys r e. simp unary-clauses at e }
 
 -- what the room is for the functions that a turn calls
-pub midway-running : {zs book : List ℕ} {plan : Plan} → Midway zs book plan → Running zs (plan .active)
+pub midway-running : {zs book : List ℕ} {plan : Plan} → Midway zs book plan → Running zs (plan .tables)
 midway-running m = record { start = m .start; state = m .state; reached = m .reaches .reached; represents = m .reaches .represents }
 
 pub midway-laid : {zs book : List ℕ} {plan : Plan} → Midway zs book plan → Laid zs
@@ -58,7 +57,7 @@ module _ {xs zs book : List ℕ} {plan : Plan} {limit : ℕ} {b : Budget} (g : G
     going-below numbers = rule-below t q numbers (g .midway)
 
     module _ (planned : Planned book (plan .count) plan) (numbers : Numbers plan) where
-      pub going-active : getD (plan .active) k false ≡ true
+      pub going-active : getD (plan .tables) k 0 ≤ 3
       going-active = rule-active t q planned numbers (g .midway)
 
       module _ (some-left : b .count < limit) {ys : List ℕ} {step : Step} (c : Considers zs ys book plan k step) {n : ℕ}

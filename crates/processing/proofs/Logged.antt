@@ -1,6 +1,5 @@
 -- A run by its log: it ends there, or goes on to the steps from the state that the log leads to, for every start that the room represents.
 use mathlib.Core.Path.{_≡_, ap}
-use mathlib.Core.Bool.{Bool}
 use mathlib.Core.List.{List, map}
 use Prim.Native.Nat.{ℕ}
 use lib.ListN.{length, length-replicate}
@@ -45,7 +44,7 @@ module _ (rules : List Rule) (order : List ℕ) (limit : ℕ) (log : List LogOpe
 
 -- ---- The room
 
-pub starts-running : {xs : List ℕ} {active : List Bool} (rules : List Rule) → Starts xs active rules → Running xs active
+pub starts-running : {xs tables : List ℕ} (rules : List Rule) → Starts xs tables rules → Running xs tables
 starts-running rules b =
     record {
       start = b .start;
@@ -55,17 +54,17 @@ starts-running rules b =
     }
 
 module _ (book log : List ℕ) (plan : Plan) (n : ℕ) {xs ys : List ℕ} {step : Step}
-    (a : Acts xs ys (plan .active) (runLog (readable n operation log 7)) step) where
+    (a : Acts xs ys (plan .tables) (runLog (readable n operation log 7)) step) where
   -- what it leaves, from a start
-  followed : (start : Image) → Sound start → Represents xs (plan .active) (starting (rulesIn book (plan .count)) start)
-      → Follows ys (plan .active) (starting (rulesIn book (plan .count)) start) (runLog (readable n operation log 7) start) step
+  followed : (start : Image) → Sound start → Represents xs (plan .tables) (starting (rulesIn book (plan .count)) start)
+      → Follows ys (plan .tables) (starting (rulesIn book (plan .count)) start) (runLog (readable n operation log 7) start) step
   unfolding starting
   followed start sound p = a .follows start _ (reached-starting (rulesIn book (plan .count)) sound) p
 
   -- the run ends there
   ends-run : (limit : ℕ) {r : Ended} {o : Covers.Outcome} → outcomeMeant (r .outcome) ≡ o → r .count ≡ 0
-      → ((start : Image) → Sound start → Represents xs (plan .active) (starting (rulesIn book (plan .count)) start)
-      → Led ys (plan .active) (starting (rulesIn book (plan .count)) start) (runLog (readable n operation log 7) start) (ends o))
+      → ((start : Image) → Sound start → Represents xs (plan .tables) (starting (rulesIn book (plan .count)) start)
+      → Led ys (plan .tables) (starting (rulesIn book (plan .count)) start) (runLog (readable n operation log 7) start) (ends o))
       → Processes xs ys book log plan limit n r
   unfolding madeAll starting
   ends-run limit {o = o} out none-made led =
@@ -88,13 +87,13 @@ module _ (book log : List ℕ) (plan : Plan) (n : ℕ) {xs ys : List ℕ} {step 
       ends-run limit (ap outcomeMeant (told .0)) (told .1) (λ start sound p. led-fails (followed start sound p) e)
 
   module _ (e : step ≡ Went) where
-    after : (start : Image) → Sound start → Represents xs (plan .active) (starting (rulesIn book (plan .count)) start)
-        → After start (starting (rulesIn book (plan .count)) start) ys (plan .active) (runLog (readable n operation log 7) start)
+    after : (start : Image) → Sound start → Represents xs (plan .tables) (starting (rulesIn book (plan .count)) start)
+        → After start (starting (rulesIn book (plan .count)) start) ys (plan .tables) (runLog (readable n operation log 7) start)
     unfolding starting
     after start sound p = acts-after (log-makes log n 7) (rw e at a) (reached-starting (rulesIn book (plan .count)) sound) p
 
     -- it goes on from a state that is reached
-    reaches-on : (start : Image) (sound : Sound start) (p : Represents xs (plan .active) (starting (rulesIn book (plan .count)) start))
+    reaches-on : (start : Image) (sound : Sound start) (p : Represents xs (plan .tables) (starting (rulesIn book (plan .count)) start))
         → Reaches ys book plan start (afterLog (rulesIn book (plan .count)) (orderIn plan) start (after start sound p .new))
     unfolding afterLog starting
     reaches-on start sound p =
@@ -106,7 +105,7 @@ module _ (book log : List ℕ) (plan : Plan) (n : ℕ) {xs ys : List ℕ} {step 
           marks = length-replicate (length rules) 0;
         }
 
-    pub log-midway : Starts xs (plan .active) (rulesIn book (plan .count)) → Midway ys book plan
+    pub log-midway : Starts xs (plan .tables) (rulesIn book (plan .count)) → Midway ys book plan
     log-midway b = record { start = b .start; state = _; reaches = reaches-on (b .start) (b .sound) (b .represents) }
 
     -- what the steps end as, the run ends as

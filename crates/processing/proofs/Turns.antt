@@ -2,7 +2,7 @@
 -- considered, and the run ends there or goes on; or a rule is triggered and no consideration is left. What a consideration or the log made
 -- fits, as the rules and operations that were read are good, so that the state after it is reached.
 use mathlib.Core.Path.{_≡_, refl, sym, ap, _∙_}
-use mathlib.Core.Bool.{Bool, true, false, _&&_}
+use mathlib.Core.Bool.{true, _&&_}
 use mathlib.Core.List.{List}
 use mathlib.Core.Option.{none, some}
 use Prim.Native.Nat.{ℕ, _+_, _-_, _≤_, _<_}
@@ -27,6 +27,7 @@ use Rattle.changes.specs.declared.Step.the-variants.{Went, RolledBack, Failed}
 use Rattle.changes.specs.Steps.{reasonMeant, Follows, goesOn, rollsBack, fails}
 use Rattle.plan.specs.declared.Plan.{Plan}
 use Rattle.plan.specs.Plans.{rulesIn, Planned}
+use Rattle.plan.proofs.Active.{active-low}
 use Rattle.trigger.specs.declared.Next.{Next}
 use Rattle.trigger.specs.declared.Next.the-variants as next
 use Rattle.trigger.specs.Triggers.{nextMeant, orderIn, Numbers, TriggersFirst}
@@ -40,25 +41,25 @@ use Rattle.processing.proofs.OneStep.{steps-quiet, steps-limit, steps-w
 -- ---- What a step led to
 
 -- operations were made, and the room represents the state with them
-pub record Led (ys : List ℕ) (active : List Bool) (s : State) (result : Result) (to : List RowOperation → Result) : Type 0 where
+pub record Led (ys tables : List ℕ) (s : State) (result : Result) (to : List RowOperation → Result) : Type 0 where
   pub new : List RowOperation
   pub is : result ≡ to new
-  pub represents : Represents ys active (madeAll new s)
+  pub represents : Represents ys tables (madeAll new s)
 
-module _ {ys : List ℕ} {active : List Bool} {s : State} where
-  pub led-on : {result : Result} {r : Step} → Follows ys active s result r → r ≡ Went → Led ys active s result went
+module _ {ys tables : List ℕ} {s : State} where
+  pub led-on : {result : Result} {r : Step} → Follows ys tables s result r → r ≡ Went → Led ys tables s result went
   led-on (goesOn {os = os} p) e = record { new = os; is = refl; represents = p }
   led-on (rollsBack p) e = absurd (let z : _≡_ {A = ℕ} 0 1 = cc in omega arith)
   led-on (fails p) e = absurd (let z : _≡_ {A = ℕ} 0 1 = cc in omega arith)
 
-  pub led-back : {result : Result} {r : Step} → Follows ys active s result r → r ≡ RolledBack
-      → Led ys active s result (ends Covers.rolledBack)
+  pub led-back : {result : Result} {r : Step} → Follows ys tables s result r → r ≡ RolledBack
+      → Led ys tables s result (ends Covers.rolledBack)
   led-back (goesOn p) e = absurd (let z : _≡_ {A = ℕ} 0 1 = cc in omega arith)
   led-back (rollsBack {os = os} p) e = record { new = os; is = refl; represents = p }
   led-back (fails p) e = absurd (let z : _≡_ {A = ℕ} 0 1 = cc in omega arith)
 
-  pub led-fails : {result : Result} {r : Step} {why : Reason} → Follows ys active s result r → r ≡ Failed why
-      → Led ys active s result (ends (Covers.failed (reasonMeant why)))
+  pub led-fails : {result : Result} {r : Step} {why : Reason} → Follows ys tables s result r → r ≡ Failed why
+      → Led ys tables s result (ends (Covers.failed (reasonMeant why)))
   led-fails (goesOn p) e = absurd (let z : _≡_ {A = ℕ} 0 1 = cc in omega arith)
   led-fails (rollsBack p) e = absurd (let z : _≡_ {A = ℕ} 0 1 = cc in omega arith)
   led-fails {why = why} (fails {r = r} {os = os} p) e =
@@ -72,8 +73,8 @@ unfolding afterEvents ended
 after-ends es a = record { laid = a .laid; outcome = a .outcome; count = a .count; next = a .next; rows = a .rows }
 
 -- a run that ends in a state that the room represents
-pub ends-there : {ys : List ℕ} {active : List Bool} {s : State} {o : Covers.Outcome} {n : ℕ} {r : Ended} (es : List Event)
-    → Represents ys active s → outcomeMeant (r .outcome) ≡ o → r .count ≡ n → EndsAs ys (ended o n (s .image) es) r
+pub ends-there : {ys tables : List ℕ} {s : State} {o : Covers.Outcome} {n : ℕ} {r : Ended} (es : List Event)
+    → Represents ys tables s → outcomeMeant (r .outcome) ≡ o → r .count ≡ n → EndsAs ys (ended o n (s .image) es) r
 unfolding ended
 ends-there es p o n = record { laid = p .laid; outcome = o; count = n; next = p .next; rows = p .rows }
 
@@ -97,7 +98,7 @@ module _ {xs book : List ℕ} {plan : Plan} {found : Next} (t : TriggersFirst xs
       }
 
   module _ {k : ℕ} (q : found ≡ next.Rule k) where
-    first : {s : State} → Represents xs (plan .active) s → firstTriggered (rulesOf book plan) (orderIn plan) s ≡ some k
+    first : {s : State} → Represents xs (plan .tables) s → firstTriggered (rulesOf book plan) (orderIn plan) s ≡ some k
     unfolding nextMeant
     first {s} p = sym (t .is s p) ∙ ap nextMeant q
 
@@ -119,19 +120,19 @@ module _ {xs book : List ℕ} {plan : Plan} {found : Next} (t : TriggersFirst xs
         (first (m .reaches .represents))
 
     -- it is triggered, so it is active
-    pub rule-active : Planned book (plan .count) plan → Numbers plan → Midway xs book plan → getD (plan .active) k false ≡ true
+    pub rule-active : Planned book (plan .count) plan → Numbers plan → Midway xs book plan → getD (plan .tables) k 0 ≤ 3
     unfolding firstTriggered triggered
     rule-active planned numbers m =
         let here = planned .placed k (rule-below numbers m) in
         let on = first-is (triggered (rulesOf book plan) (m .state)) (orderIn plan) k (first (m .reaches .represents)) .passes in
         let both : here .rule .active && any (λ p. wakes (here .rule) (p .1)) (waits (m .state) k) ≡ true = rw (here .listed) at on in
-        here .is ∙ and-true (here .rule .active) (any (λ p. wakes (here .rule) (p .1)) (waits (m .state) k)) both .0
+        active-low here (and-true (here .rule .active) (any (λ p. wakes (here .rule) (p .1)) (waits (m .state) k)) both .0)
 
     module _ (planned : Planned book (plan .count) plan) (below : k < plan .count) {ys : List ℕ} {step : Step}
         (c : Considers xs ys book plan k step) where
       -- what its consideration leaves, from every state
       followed : {start : Image} {s : State} → Reaches xs book plan start s
-          → Follows ys (plan .active) (seen s k) (consider (rulesOf book plan) s k) step
+          → Follows ys (plan .tables) (seen s k) (consider (rulesOf book plan) s k) step
       followed {start} {s} a =
           let here = there-below (rulesOf book plan) k (planned .placed k below .rule) (planned .placed k below .listed) in
           c .follows start s (a .reached) (a .represents) (omega (arith, a .marks))
@@ -139,7 +140,7 @@ module _ {xs book : List ℕ} {plan : Plan} {found : Next} (t : TriggersFirst xs
       -- the run ends there
       ends-run : (left count : ℕ) {r : Ended} {o : Covers.Outcome} → 0 < left → outcomeMeant (r .outcome) ≡ o → r .count ≡ count + 1
           → ((start : Image) (s : State) → Reaches xs book plan start s
-          → Led ys (plan .active) (seen s k) (consider (rulesOf book plan) s k) (ends o))
+          → Led ys (plan .tables) (seen s k) (consider (rulesOf book plan) s k) (ends o))
           → EndsFrom xs ys book plan left count r
       unfolding madeAll seen
       ends-run left count {o = o} h out n led =
@@ -162,7 +163,7 @@ module _ {xs book : List ℕ} {plan : Plan} {found : Next} (t : TriggersFirst xs
 
       module _ (e : step ≡ Went) where
         led : {start : Image} {s : State} → Reaches xs book plan start s
-            → Led ys (plan .active) (seen s k) (consider (rulesOf book plan) s k) went
+            → Led ys (plan .tables) (seen s k) (consider (rulesOf book plan) s k) went
         led a = led-on (followed a) e
 
         -- it goes on from a state that is reached, too

@@ -1,6 +1,5 @@
 -- How a run ended, and what it left in the working room.
 use mathlib.Core.Path.{_≡_}
-use mathlib.Core.Bool.{Bool}
 use mathlib.Core.List.{List}
 use Prim.Native.Nat.{ℕ}
 use lib.ListN.{length}
@@ -28,10 +27,10 @@ outcomeMeant StepLimit = Covers.Outcome.stepLimit
 outcomeMeant (Failed r) = Covers.Outcome.failed (reasonMeant r)
 
 -- a room that represents a run's start
-pub record Starts (xs : List ℕ) (active : List Bool) (rules : List Rule) : Type 0 where
+pub record Starts (xs tables : List ℕ) (rules : List Rule) : Type 0 where
   pub start : Image
   pub sound : Sound start
-  pub represents : Represents xs active (starting rules start)
+  pub represents : Represents xs tables (starting rules start)
 
 -- outcome and count are those of an ending, and its image stands in the room
 pub record EndsAs (ys : List ℕ) (e : Ending) (r : Ended) : Type 0 where
@@ -44,5 +43,5 @@ pub record EndsAs (ys : List ℕ) (e : Ending) (r : Ended) : Type 0 where
 -- the run ended as the specification says, for every start that the room represents; what stands past the tables stays
 pub record Processes (xs ys book log : List ℕ) (plan : Plan) (limit n : ℕ) (r : Ended) : Type 0 where
   pub beyond : Kept END (length xs) xs ys
-  pub ends : (start : Image) → Sound start → Represents xs (plan .active) (starting (rulesIn book (plan .count)) start)
+  pub ends : (start : Image) → Sound start → Represents xs (plan .tables) (starting (rulesIn book (plan .count)) start)
       → EndsAs ys (process (rulesIn book (plan .count)) (orderIn plan) limit (readable n operation log 7) start) r

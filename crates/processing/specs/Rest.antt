@@ -16,7 +16,7 @@ use Rattle.processing.specs.Endings.{EndsAs}
 -- a run of the book's rules reaches a state from a start, and the room represents it; each rule has its mark
 pub record Reaches (xs book : List ℕ) (plan : Plan) (start : Image) (s : State) : Type 0 where
   pub reached : Reached start s
-  pub represents : Represents xs (plan .active) s
+  pub represents : Represents xs (plan .tables) s
   pub marks : length (s .marks) ≡ length (rulesIn book (plan .count))
 
 -- there is such a state

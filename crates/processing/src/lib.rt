@@ -101,11 +101,11 @@ pub fn process(
     requires { ⌜ plan .count ≤ 16 ⌝ }
     requires { ⌜ Planned (now book) (plan .count) plan ⌝ }
     requires { ⌜ Numbers plan ⌝ }
-    requires { ⌜ Starts (now room) (plan .active) (rulesIn (now book) (plan .count)) ⌝ }
+    requires { ⌜ Starts (now room) (plan .tables) (rulesIn (now book) (plan .count)) ⌝ }
     ensures { λ r. ⌜ Processes (now (room .entry)) (now (room .exit)) (now (book .entry)) (now (log .entry)) plan limit operations r ⌝ }
 {
-    let active = plan.active;
-    match series::run_log(room, active, log, operations) {
+    let tables = plan.tables;
+    match series::run_log(room, tables, log, operations) {
         Step::Went => steps(room, book, plan, limit),
         Step::RolledBack => ending(Outcome::RolledBack, 0),
         Step::Failed(reason) => ending(Outcome::Failed(reason), 0),

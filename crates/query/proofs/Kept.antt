@@ -1,15 +1,13 @@
--- A change of the chosen rows alone leaves every other table of the room, since no two of them overlap: where the room was laid it is
--- laid, and the rows of each source stay.
+-- A source's table stands in the room below the chosen rows, so a change of those alone leaves it; where the room was laid it is laid.
 use mathlib.Core.Path.{_≡_}
 use mathlib.Core.List.{List}
 use Prim.Native.Nat.{ℕ, _+_, _≤_}
 use native.Mathlib.Omega.{arith}
 use lib.Dec.{eqb, ltb}
-use lib.ListN.{length}
 use Rattle.words.proofs.Laws.{split}
-use Rattle.slots.specs.Slots.{tableAt, tableBytes, Frame, Stands}
+use Rattle.slots.specs.Slots.{tableBytes, Frame, Stands}
 use Rattle.slots.proofs.Frames.{frame-wider}
-use Rattle.slots.proofs.Tables.{table-kept-below, stands-kept-above}
+use Rattle.slots.proofs.Tables.{stands-kept-above}
 use Rattle.room.specs.Room.{CHOSEN, WORKED, ROWS, Laid}
 use Rattle.room.proofs.Kept.{laid-aside}
 use Rattle.query.specs.Chosen.{baseOf}
@@ -28,7 +26,7 @@ source-below source =
     (split (eqb source 6) (λ e. rw e (omega arith)) (λ n6.
     rw n6 (omega arith))))))))
 
-pub source-stands : {xs : List ℕ} → Laid xs → (source : ℕ) → Stands (baseOf source) ROWS xs
+source-stands : {xs : List ℕ} → Laid xs → (source : ℕ) → Stands (baseOf source) ROWS xs
 unfolding baseOf
 source-stands l source =
     split (ltb source 4) (λ e. rw e (l .live)) (λ e4.
@@ -41,21 +39,11 @@ source-stands l source =
     rw n6 (l .old))))))))
 
 -- by an answer of `query::base_of`
-module _ {xs : List ℕ} (l : Laid xs) (source : ℕ) {base : ℕ} (e : base ≡ baseOf source) where
-  pub base-stands : Stands base ROWS xs
-  base-stands = rw e (source-stands l source)
-
-  pub base-within : base + 4 ≤ length xs
-  unfolding tableBytes
-  base-within = omega (arith, base-stands .fits)
+pub base-stands : {xs : List ℕ} → Laid xs → (source : ℕ) {base : ℕ} → base ≡ baseOf source → Stands base ROWS xs
+base-stands l source e = rw e (source-stands l source)
 
 -- ---- What stays
 
-module _ {xs ys : List ℕ} (l : Laid xs) (f : Frame CHOSEN (CHOSEN + tableBytes ROWS) xs ys) where
-  pub laid-kept : Stands CHOSEN ROWS ys → Laid ys
-  unfolding tableBytes
-  laid-kept s =
-      laid-aside l (frame-wider f (omega arith) (omega arith)) s (stands-kept-above f WORKED ROWS (l .worked) (omega arith))
-
-  pub source-kept : (source : ℕ) → tableAt ys (baseOf source) ≡ tableAt xs (baseOf source)
-  source-kept source = table-kept-below f (baseOf source) ROWS (source-stands l source) (source-below source)
+pub laid-kept : {xs ys : List ℕ} → Laid xs → Frame CHOSEN (CHOSEN + tableBytes ROWS) xs ys → Stands CHOSEN ROWS ys → Laid ys
+unfolding tableBytes
+laid-kept l f s = laid-aside l (frame-wider f (omega arith) (omega arith)) s (stands-kept-above f WORKED ROWS (l .worked) (omega arith))

@@ -1,43 +1,28 @@
--- Laws of tests over lists: over values that are read one after another, over rows that stand as slots, and over the rows of a source.
+-- Laws of tests over lists: over rows that stand as slots, and over the rows of a source.
 -- A source's rows are those that it shows of the table where they stand, so a test over them is a test over that table.
 use mathlib.Core.Path.{_≡_, refl, sym, ap, _∙_}
 use mathlib.Core.Bool.{Bool, true, false, _&&_, _||_}
 use mathlib.Core.List.{List, [], _∷_, map}
-use Prim.Native.Nat.{ℕ, _+_, _-_, _≤_, _<_}
-use borrow.Author.Tests.{eqb-true}
-use native.Mathlib.Omega.{arith}
+use Prim.Native.Nat.{ℕ, _+_, _≤_, _<_}
 use lib.Dec.{eqb, ltb}
-use Rattle.meaning.specs.Base.{if_then_else_, any, all, select, someIn}
-use Rattle.meaning.specs.Covers.{Row}
-use Rattle.meaning.specs.Reading.{bad, got, Parser}
+use lib.ListN.{getD}
+use Rattle.meaning.specs.Base.{if_then_else_, any, select, someIn}
+use Rattle.meaning.specs.Covers.{Row, Pair}
+use Rattle.meaning.specs.Reading.{bad, got}
 use Rattle.meaning.specs.ByteLayouts.{pair}
-use Rattle.meaning.specs.Processing.Queries.{sourceRows, allHold, chosen}
-use Rattle.words.specs.Words.{readable, Looked}
-use Rattle.words.proofs.Laws.{split, readable-none, readable-bad, readable-more}
+use Rattle.meaning.specs.Values.{signed}
+use Rattle.meaning.specs.Processing.Queries.{cell, sourceRows, holds, allHold, chosen}
+use Rattle.words.specs.Words.{Looked}
+use Rattle.words.proofs.Laws.{split}
 use Rattle.slots.specs.declared.Slot.{Slot}
-use Rattle.slots.specs.Slots.{tableAt}
+use Rattle.slots.specs.Slots.{tableAt, blank, valueOf}
 use Rattle.terms.specs.declared.Query.{Query}
-use Rattle.terms.specs.declared.Terms.{Terms}
-use Rattle.terms.specs.Terms.{sourceMeant, termsMeant, queryMeant}
+use Rattle.terms.specs.Terms.{sourceMeant, matchMeant, termsMeant, queryMeant}
 use Rattle.terms.proofs.Laws.{column-looked, column-wrong}
 use Rattle.room.specs.Room.{rowMeant, rowsMeant, liveRows, transitionIn}
+use Rattle.room.proofs.Cells.{value-cell}
 use Rattle.query.specs.Chosen.{baseOf, shows, rowsFrom}
-
--- ---- All of the values that are read one after another
-
-module _ {A : Type 0} (p : A → Bool) (q : Parser A) (n : ℕ) (s : List ℕ) (at : ℕ) where
-  pub all-none : n ≤ 0 → all p (readable n q s at) ≡ true
-  all-none h = rw (readable-none q n s at h)
-
-  pub all-bad : q s at ≡ bad → all p (readable n q s at) ≡ true
-  all-bad e = rw (readable-bad q n s at e)
-
-  pub all-fails : (x : A) (next : ℕ) → 0 < n → q s at ≡ got x next → p x ≡ false → all p (readable n q s at) ≡ false
-  all-fails x next h e f = rw (readable-more q n s at x next h e, f)
-
-  pub all-more : (x : A) (next : ℕ) → 0 < n → q s at ≡ got x next → p x ≡ true
-      → all p (readable n q s at) ≡ all p (readable (n - 1) q s next)
-  all-more x next h e f = rw (readable-more q n s at x next h e, f)
+use Rattle.query.specs.Picks.{matchHolds, termHolds}
 
 -- ---- A pair of columns, by the bytes that were looked at
 
@@ -58,14 +43,6 @@ module _ {s : List ℕ} {at a : ℕ} (x : Looked s at a) where
 -- ---- Two tests in a row are one
 
 module _ {A : Type 0} (p q : A → Bool) where
-  any-if : (b : Bool) (x : A) (l : List A) → any p (if b then x ∷ l else l) ≡ ((b && p x) || any p l)
-  any-if true x l = refl
-  any-if false x l = refl
-
-  pub any-select : (l : List A) → any p (select q l) ≡ any (λ x. q x && p x) l
-  any-select [] = refl
-  any-select (x ∷ l) = any-if (q x) x (select q l) ∙ ap (λ (b : Bool). (q x && p x) || b) (any-select l)
-
   select-if : (b : Bool) (x : A) (l : List A)
       → select p (if b then x ∷ l else l) ≡ (if b && p x then x ∷ select p l else select p l)
   select-if true x l = refl
@@ -75,15 +52,6 @@ module _ {A : Type 0} (p q : A → Bool) where
   select-select [] = refl
   select-select (x ∷ l) =
       select-if (q x) x (select q l) ∙ ap (λ (r : List A). if q x && p x then x ∷ r else r) (select-select l)
-
--- some pass where the list of those that pass has an element
-pub some-select : {A : Type 0} (p : A → Bool) (l : List A) → someIn (select p l) ≡ any p l
-some-select p [] = refl
-some-select {A} p (x ∷ l) = by (p x) (some-select p l)
-  where
-    by : (b : Bool) → someIn (select p l) ≡ any p l → someIn (if b then x ∷ select p l else select p l) ≡ (b || any p l)
-    by true h = refl
-    by false h = h
 
 -- ---- Slots as rows
 
@@ -100,6 +68,15 @@ module _ {A B : Type 0} (f : A → B) (p : B → Bool) where
   select-map [] = refl
   select-map (x ∷ l) =
       ap (λ (r : List B). if p (f x) then f x ∷ r else r) (select-map l) ∙ sym (map-if (p (f x)) x (select (λ x. p (f x)) l))
+
+some-map : {A B : Type 0} (f : A → B) (l : List A) → someIn (map f l) ≡ someIn l
+some-map f [] = refl
+some-map f (x ∷ l) = refl
+
+-- the value of a slot in a column, as it was read at a place of a table
+pub cell-read : (l : List Slot) (column : ℕ) {v i k : ℕ} → i ≡ k → v ≡ valueOf (getD l i blank) column
+    → signed v ≡ cell (rowMeant (getD l k blank)) column
+cell-read l column {v} {i} {k} same is = rw (is, same) (value-cell (getD l k blank) column)
 
 -- ---- The rows of a source
 
@@ -129,15 +106,15 @@ rows-from xs source =
     (split (eqb source 6) (λ e. rw e (shows-each source e4 (tableAt xs 4624))) (λ n6.
     rw n6 (shows-each source e4 (tableAt xs 6164)))))))))
 
+-- a match of a row that stands as a slot is the term's
+pub match-holds : (xs : List ℕ) (ps : List Pair) (source : ℕ) (negated : Bool)
+    → matchHolds xs ps source negated ≡ termHolds xs (matchMeant negated (sourceMeant source) ps)
+unfolding matchHolds termHolds holds matchMeant rowsFrom
+match-holds xs ps source true = refl
+match-holds xs ps source false = refl
+
 -- a test over the rows of a source, as one over the table where they stand
 module _ (xs : List ℕ) (source : ℕ) (p : Row → Bool) where
-  pub any-rows : any p (rowsFrom xs source) ≡ any (λ e. shows source e && p (rowMeant e)) (tableAt xs (baseOf source))
-  unfolding rowsMeant
-  any-rows =
-      ap (any p) (rows-from xs source)
-      ∙ any-map rowMeant p (select (shows source) (tableAt xs (baseOf source)))
-      ∙ any-select (λ e. p (rowMeant e)) (shows source) (tableAt xs (baseOf source))
-
   pub select-rows : select p (rowsFrom xs source)
       ≡ rowsMeant (select (λ e. shows source e && p (rowMeant e)) (tableAt xs (baseOf source)))
   unfolding rowsMeant
@@ -160,22 +137,6 @@ module _ (xs book : List ℕ) (triggers : ℕ) (q : Query) where
   chosen-rows = select-rows xs (q .source) (allHold (transitionIn xs) (liveRows xs) (termsMeant book triggers (q .terms)))
 
   pub some-chosen : someIn (chosen (transitionIn xs) (liveRows xs) (queryMeant book triggers q))
-      ≡ any (wanted xs book triggers q) (tableAt xs (baseOf (q .source)))
-  unfolding chosen queryMeant rowsFrom
-  some-chosen =
-      some-select (allHold (transitionIn xs) (liveRows xs) (termsMeant book triggers (q .terms))) (rowsFrom xs (q .source))
-      ∙ any-rows xs (q .source) (allHold (transitionIn xs) (liveRows xs) (termsMeant book triggers (q .terms)))
-
--- with no terms nothing is asked of a row
-pub none-asked : (xs book : List ℕ) (triggers : ℕ) (t : Terms) (r : Row) → eqb (t .count) 0 ≡ true
-    → allHold (transitionIn xs) (liveRows xs) (termsMeant book triggers t) r ≡ true
-unfolding allHold termsMeant
-none-asked xs book triggers t r e = all-none _ _ (t .count) book (t .first) (omega (arith, eqb-true (t .count) 0 e))
-
--- a row is asked for its terms only where the source shows it
-module _ {s shown : Bool} (test : s ≡ shown) where
-  pub not-shown : (held : Bool) → s ≡ false → false ≡ (shown && held)
-  not-shown held f = rw (← test, f)
-
-  pub shown-held : {h held : Bool} → s ≡ true → h ≡ held → h ≡ (shown && held)
-  shown-held t e = rw (← test, t) e
+      ≡ someIn (select (wanted xs book triggers q) (tableAt xs (baseOf (q .source))))
+  unfolding rowsMeant
+  some-chosen = ap someIn chosen-rows ∙ some-map rowMeant (select (wanted xs book triggers q) (tableAt xs (baseOf (q .source))))

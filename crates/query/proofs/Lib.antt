@@ -1,4 +1,9 @@
 pub mod Laws
 pub mod Kept
 pub mod Loops
-mod Matching
+mod Narrowing
+mod Asking
+mod Few
+mod Columns
+mod Gathered
+mod Matches

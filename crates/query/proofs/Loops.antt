@@ -1,173 +1,110 @@
--- The loops over a source's table, which count down what is left: a row of the whole table is wanted where one of those that are left is,
--- and the wanted rows of the whole are those chosen so far, then those of what is left.
+-- The loops over a table: what is left of a list that is counted down, and the choice of rows at picked places, one after another, into the
+-- table of the chosen ones.
 use mathlib.Core.Path.{_≡_, sym, ap, _∙_}
-use mathlib.Core.Bool.{Bool, true, false}
-use mathlib.Core.List.{List, [], _∷_, _++_, append-nil, append-assoc}
+use mathlib.Core.List.{List, [], _∷_, _++_}
 use Prim.Native.Nat.{ℕ, suc, _+_, _-_, _≤_, _<_}
 use native.Mathlib.Omega.{arith}
-use lib.ListN.{length, getD, drop, drop-of-length-le, length-append}
-use lib.Seq.{drop-cons}
-use Rattle.meaning.specs.Base.{if_then_else_, any, select}
+use lib.ListN.{length, getD, take, drop, drop-of-length-le, length-map}
+use lib.Seq.{drop-cons, length-take-le}
+use Rattle.meaning.specs.Base.{select}
 use Rattle.words.specs.Words.{word32At}
-use Rattle.slots.specs.declared.Slot.{Slot}
 use Rattle.slots.specs.Slots.{tableAt, tableBytes, Frame, Stands, Holds, blank}
 use Rattle.slots.proofs.Frames.{frame-refl, frame-trans}
-use Rattle.slots.proofs.Tables.{table-length}
+use Rattle.slots.proofs.Tables.{table-length, table-kept-below, stands-kept-below}
 use Rattle.terms.specs.declared.Query.{Query}
 use Rattle.terms.specs.Terms.{queryMeant}
 use Rattle.room.specs.Room.{CHOSEN, ROWS, Laid, rowsMeant}
 use Rattle.room.proofs.Kept.{kept-below, live-kept, transition-kept}
+use Rattle.query.specs.declared.Picked.{Picked}
 use Rattle.query.specs.Chosen.{baseOf, Chose}
+use Rattle.query.specs.Picks.{slotsOf, Within, Picks}
 use Rattle.query.proofs.Laws.{wanted, chosen-rows}
-use Rattle.query.proofs.Kept.{base-stands, laid-kept, source-kept}
+use Rattle.query.proofs.Kept.{source-below, base-stands, laid-kept}
+use Rattle.query.proofs.Narrowing.{slotsAt, slots-more}
 
--- ---- What is left of a list, by its length: the last `left` of n
-
-module _ {A : Type 0} (l : List A) (n left : ℕ) (size : n ≡ length l) where
-  pub rest-all : drop (n - n) l ≡ l
-  rest-all = let z : n - n ≡ 0 = omega arith in rw z
-
-  pub rest-none : left ≤ 0 → drop (n - left) l ≡ []
-  rest-none h = drop-of-length-le l {i = n - left} (omega arith)
-
-  pub rest-more : (d : A) → left ≤ n → 0 < left → drop (n - left) l ≡ getD l (n - left) d ∷ drop (n - (left - 1)) l
-  rest-more d low more =
-      let next : n - (left - 1) ≡ suc (n - left) = omega arith in
-      rw next (drop-cons l (n - left) d (omega arith))
-
--- ---- The search: some slot of the list passes where one of those that are left does
-
-pub record Seeking (p : Slot → Bool) (l : List Slot) (n left : ℕ) : Type 0 where
-  pub size : n ≡ length l
-  pub low : left ≤ n
-  pub rest : any p l ≡ any p (drop (n - left) l)
-
-pub seeking-start : {p : Slot → Bool} (l : List Slot) (n : ℕ) → n ≡ length l → Seeking p l n n
-seeking-start {p} l n size = record { size = size; low = omega arith; rest = sym (ap (any p) (rest-all l n 0 size)) }
-
-module _ {p : Slot → Bool} {l : List Slot} {n left : ℕ} (s : Seeking p l n left) where
-  pub seeking-none : left ≤ 0 → any p l ≡ false
-  seeking-none h = s .rest ∙ ap (any p) (rest-none l n left (s .size) h)
-
-  module _ (more : 0 < left) {e : Slot} {b : Bool} (is : e ≡ getD l (n - left) blank) (test : b ≡ p e) where
-    pub seeking-found : b ≡ true → any p l ≡ true
-    seeking-found t =
-        let yes : p (getD l (n - left) blank) ≡ true = rw (← is) (sym test ∙ t) in
-        s .rest ∙ rw (rest-more l n left (s .size) blank (s .low) more, yes)
-
-    pub seeking-more : b ≡ false → Seeking p l n (left - 1)
-    seeking-more t =
-        let no : p (getD l (n - left) blank) ≡ false = rw (← is) (sym test ∙ t) in
-        record {
-          size = s .size;
-          low = omega (arith, s .low);
-          rest = s .rest ∙ rw (rest-more l n left (s .size) blank (s .low) more, no);
-        }
-
--- ---- The choice: those chosen so far, then the wanted ones of those that are left, are the wanted ones of the whole
+-- ---- The choice: the rows chosen so far are those at the first j places
 
 -- x0 is the room with no row chosen; only the chosen rows change from there
-pub record Choosing (x0 x book : List ℕ) (triggers : ℕ) (q : Query) (base n left : ℕ) : Type 0 where
-  pub laid : Laid x0
-  pub place : base ≡ baseOf (q .source)
-  pub size : n ≡ length (tableAt x0 base)
-  pub low : left ≤ n
+pub record Choosing (x0 x : List ℕ) (base : ℕ) (rows : Picked) (j : ℕ) : Type 0 where
+  pub source : Stands base ROWS x0
+  pub below : base + tableBytes ROWS ≤ CHOSEN
+  pub within : Within (tableAt x0 base) rows
+  pub len : length (rows .places) ≡ 64
+  pub high : j ≤ rows .count
   pub frame : Frame CHOSEN (CHOSEN + tableBytes ROWS) x0 x
   pub stands : Stands CHOSEN ROWS x
-  pub few : length (tableAt x CHOSEN) + left ≤ n
-  pub list : select (wanted x0 book triggers q) (tableAt x0 base)
-      ≡ tableAt x CHOSEN ++ select (wanted x0 book triggers q) (drop (n - left) (tableAt x0 base))
+  pub list : tableAt x CHOSEN ≡ slotsAt (tableAt x0 base) (rows .places) j
 
-module _ (book : List ℕ) (triggers : ℕ) (q : Query) where
-  -- with an emptied table
-  module _ {xs x0 : List ℕ} (l : Laid xs) (h : Holds CHOSEN ROWS xs x0 []) {base n : ℕ} where
-    pub choosing-start : base ≡ baseOf (q .source) → n ≡ word32At x0 base → Choosing x0 x0 book triggers q base n n
-    choosing-start e m =
-        let none : tableAt x0 CHOSEN ≡ [] = h .list in
-        let size : n ≡ length (tableAt x0 base) = m ∙ sym (table-length x0 base) in
+-- with an emptied table
+module _ {xs x0 : List ℕ} (l : Laid xs) (h : Holds CHOSEN ROWS xs x0 []) where
+  pub emptied-laid : Laid x0
+  emptied-laid = laid-kept l (h .frame) (h .stands)
+
+  module _ (q : Query) {base : ℕ} (rows : Picked) (e : base ≡ baseOf (q .source)) where
+    pub choosing-start : Within (tableAt x0 base) rows → length (rows .places) ≡ 64 → Choosing x0 x0 base rows 0
+    choosing-start within long =
         record {
-          laid = laid-kept l (h .frame) (h .stands);
-          place = e;
-          size = size;
-          low = omega arith;
+          source = base-stands emptied-laid (q .source) e;
+          below = rw e (source-below (q .source));
+          within = within;
+          len = long;
+          high = omega arith;
           frame = frame-refl;
           stands = h .stands;
-          few = rw none (omega arith);
-          list = rw none (ap (select (wanted x0 book triggers q)) (sym (rest-all (tableAt x0 base) n 0 size)));
+          list = h .list;
         }
 
-    pub choosing-done : {x : List ℕ} {left : ℕ} → Choosing x0 x book triggers q base n left → left ≤ 0
+    pub choosing-done : (book : List ℕ) (triggers : ℕ) {x : List ℕ} {j : ℕ}
+        → Picks (tableAt x0 base) (select (wanted x0 book triggers q) (tableAt x0 base)) rows → Choosing x0 x base rows j → rows .count ≤ j
         → Chose xs x (queryMeant book triggers q)
-    choosing-done {x} {left} s none =
-        let each : List Slot → List Slot = λ r. tableAt x CHOSEN ++ select (wanted x0 book triggers q) r in
+    unfolding slotsOf
+    choosing-done book triggers {x} {j} picks s none =
         let same = kept-below (h .frame) in
-        let whole = s .list ∙ ap each (rest-none (tableAt x0 base) n left (s .size) none) ∙ append-nil (tableAt x CHOSEN) in
+        let all : j ≡ rows .count = omega (arith, s .high) in
+        let chosen : tableAt x CHOSEN ≡ select (wanted x0 book triggers q) (tableAt x0 base) = rw (s .list, all) (picks .slots) in
         record {
           frame = frame-trans (h .frame) (s .frame);
           stands = s .stands;
           rows =
               rw (← transition-kept same l (omega arith) (omega arith), ← live-kept same l (omega arith) (omega arith))
-              (ap rowsMeant (sym whole) ∙ rw (s .place) (sym (chosen-rows x0 book triggers q)));
+              (ap rowsMeant chosen ∙ rw e (sym (chosen-rows x0 book triggers q)));
         }
 
-  module _ {x0 x : List ℕ} {base n left : ℕ} (s : Choosing x0 x book triggers q base n left) where
-    -- what the turn's calls require
-    pub choosing-laid : Laid x
-    choosing-laid = laid-kept (s .laid) (s .frame) (s .stands)
+module _ {x0 x : List ℕ} {base : ℕ} (rows : Picked) {j : ℕ} (s : Choosing x0 x base rows j) (more : j < rows .count) where
+  table-kept : tableAt x base ≡ tableAt x0 base
+  table-kept = table-kept-below (s .frame) base ROWS (s .source) (s .below)
 
-    table-kept : tableAt x base ≡ tableAt x0 base
-    table-kept = rw (s .place) (source-kept (s .laid) (s .frame) (q .source))
+  -- what the turn's calls require
+  pub choosing-few : j < 64
+  choosing-few = omega (arith, s .within .few)
 
-    pub choosing-stands : Stands base ROWS x
-    choosing-stands = base-stands choosing-laid (q .source) (s .place)
+  pub choosing-stands : Stands base ROWS x
+  choosing-stands = stands-kept-below (s .frame) base ROWS (s .source) (s .below)
 
-    pub choosing-sized : n ≡ word32At x base
-    choosing-sized = s .size ∙ ap length (sym table-kept) ∙ table-length x base
+  pub choosing-room : word32At x CHOSEN < ROWS
+  choosing-room =
+      let taken : length (take j (rows .places)) ≡ j = length-take-le j (rows .places) (omega (arith, s .len, choosing-few)) in
+      let each = length-map (take j (rows .places)) (λ i. getD (tableAt x0 base) i blank) in
+      let size : length (tableAt x CHOSEN) ≡ j = rw (s .list) (each ∙ taken) in
+      omega (arith, table-length x CHOSEN, choosing-few)
 
-    pub choosing-room : 0 < left → word32At x CHOSEN < ROWS
-    choosing-room more = omega (arith, s .few, table-length x CHOSEN, choosing-sized, choosing-stands .size)
+  module _ {i : ℕ} (is : i ≡ getD (rows .places) j 0) where
+    pub choosing-inside : i < word32At x base
+    choosing-inside = omega (arith, is, s .within .inside j more, table-length x base, ap length table-kept)
 
-    module _ (more : 0 < left) {e : Slot} {b : Bool} (is : e ≡ getD (tableAt x base) (n - left) blank)
-        (test : b ≡ wanted x book triggers q e) where
-      here : e ≡ getD (tableAt x0 base) (n - left) blank
-      here = is ∙ ap (λ (t : List Slot). getD t (n - left) blank) table-kept
-
-      test-was : b ≡ wanted x0 book triggers q (getD (tableAt x0 base) (n - left) blank)
-      test-was =
-          let same = kept-below (s .frame) in
-          test
-          ∙ rw (transition-kept same (s .laid) (omega arith) (omega arith), live-kept same (s .laid) (omega arith) (omega arith))
-          (ap (wanted x0 book triggers q) here)
-
-      rest : drop (n - left) (tableAt x0 base)
-          ≡ getD (tableAt x0 base) (n - left) blank ∷ drop (n - (left - 1)) (tableAt x0 base)
-      rest = rest-more (tableAt x0 base) n left (s .size) blank (s .low) more
-
-      pub turn-no : b ≡ false → Choosing x0 x book triggers q base n (left - 1)
-      turn-no f =
-          let no : wanted x0 book triggers q (getD (tableAt x0 base) (n - left) blank) ≡ false = sym test-was ∙ f in
-          record {
-            laid = s .laid;
-            place = s .place;
-            size = s .size;
-            low = omega (arith, s .low);
-            frame = s .frame;
-            stands = s .stands;
-            few = omega (arith, s .few);
-            list = s .list ∙ rw (rest, no);
-          }
-
-      pub turn-yes : {y : List ℕ} → b ≡ true → Holds CHOSEN ROWS x y (tableAt x CHOSEN ++ (e ∷ []))
-          → Choosing x0 y book triggers q base n (left - 1)
-      turn-yes {y} f h =
-          let yes : wanted x0 book triggers q (getD (tableAt x0 base) (n - left) blank) ≡ true = sym test-was ∙ f in
-          record {
-            laid = s .laid;
-            place = s .place;
-            size = s .size;
-            low = omega (arith, s .low);
-            frame = frame-trans (s .frame) (h .frame);
-            stands = h .stands;
-            few = rw (h .list) (simp length-append (omega (arith, s .few)));
-            list = s .list ∙ rw (rest, yes, h .list, here) (sym (append-assoc (tableAt x CHOSEN) _ _));
-          }
+    pub choosing-more : {y : List ℕ} → Holds CHOSEN ROWS x y (tableAt x CHOSEN ++ (getD (tableAt x base) i blank ∷ []))
+        → Choosing x0 y base rows (j + 1)
+    choosing-more {y} h =
+        record {
+          source = s .source;
+          below = s .below;
+          within = s .within;
+          len = s .len;
+          high = omega arith;
+          frame = frame-trans (s .frame) (h .frame);
+          stands = h .stands;
+          list =
+              h .list
+              ∙ rw (s .list, table-kept, is)
+              (sym (slots-more (tableAt x0 base) (rows .places) j (omega (arith, s .len, choosing-few))));
+        }

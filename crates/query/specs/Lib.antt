@@ -1,2 +1,3 @@
 pub mod Chosen
-pub mod Matches
+pub mod Picks
+pub mod Columns

@@ -11,17 +11,19 @@ use native.Mathlib.Omega.{arith}
 use lib.Dec.{eqb}
 use lib.ListN.{length, getD, length-map}
 use borrow.Author.Tests.{eqb-true, ne-eqb}
-use Rattle.meaning.specs.Base.{gather}
+use Rattle.meaning.specs.Base.{any, gather}
 use Rattle.meaning.specs.Covers.{Row, Rule, Image}
 use Rattle.meaning.specs.RowOperations.{RowOperation, Effect, NetEffect, rowAt, net, netEffect, effectAt}
-use Rattle.meaning.specs.Processing.{State, waits}
-use Rattle.meaning.specs.Processing.TransitionTables.{deletedRow, oldRow, insertedRow, newRow, transition}
+use Rattle.meaning.specs.Processing.{State, since, waits}
+use Rattle.meaning.specs.Processing.TransitionTables.{wakes, deletedRow, oldRow, insertedRow, newRow, transition}
 use Rattle.meaning.specs.Trace.{Differs, stays, comes, goes, changes}
 use Rattle.meaning.proofs.Lists.{true-is-false, or-cases, clash, has, eqb-self, Distinct, noNumber, another, no-longer}
 use Rattle.meaning.proofs.NetEffects.{Listed, noEntry, oneEntry, says-net, netEffect-listed}
 use Rattle.meaning.proofs.Capacity.{handles, has-live}
 use Rattle.meaning.proofs.Lives.{differs}
-use Rattle.room.specs.Room.{ROWS, liveRows}
+use Rattle.room.specs.Room.{ROWS, liveRows, waitsIn}
+use Rattle.meaning.proofs.OwnTable.{ownOf}
+use Rattle.meaning.proofs.OwnTable.{own-gather, own-wakes, own-transition}
 use Rattle.room.specs.Drawn.{drawnFor, Few}
 use Rattle.room.specs.Represents.{Represents, Reached}
 use Rattle.room.proofs.Live.{reached-sound}
@@ -177,8 +179,35 @@ module _ {m end : Image} {os : List RowOperation} (t : Stretch m os end) (fits :
         old = omega (arith, drawn-few (λ h e. oldRow rule e) os was (λ h r q. old-lived rule rows h was (differs-at h) refl q));
       }
 
-pub draw-few : {start : Image} {s : State} {xs : List ℕ} {active : List Bool} → Reached start s → Represents xs active s → (k : ℕ) → k < 16
-    → getD active k false ≡ true → (rule : Rule) → Few (drawnFor xs k rule)
+-- so is what is drawn from a table's part of it
+own-fewer : (t : ℕ) (rule : Rule) (rows : List Row) (es : NetEffect) → Few (transition rule rows es) → Few (transition rule rows (ownOf t es))
+unfolding transition
+own-fewer t rule rows es f =
+    record {
+      inserted = omega (arith, f .inserted, own-gather t (λ p. insertedRow rule rows (p .0) (p .1)) es);
+      deleted = omega (arith, f .deleted, own-gather t (λ p. deletedRow rule (p .1)) es);
+      new = omega (arith, f .new, own-gather t (λ p. newRow rule rows (p .0) (p .1)) es);
+      old = omega (arith, f .old, own-gather t (λ p. oldRow rule (p .1)) es);
+    }
+
+pub draw-few : {start : Image} {s : State} {xs tables : List ℕ} → Reached start s → Represents xs tables s → (k : ℕ) → k < 16
+    → (rule : Rule) → Few (drawnFor xs k rule)
 unfolding drawnFor waits
-draw-few {xs = xs} reached p k b a rule =
-    rw (p .waiting k b a) (stretch-few (stretch reached k) (reached-sound reached .rowsFit) rule (liveRows xs))
+draw-few {s = s} {xs = xs} {tables = tables} reached p k b rule =
+    rw (p .waiting k b)
+    (own-fewer (getD tables k 0) rule (liveRows xs) (netEffect (since s k))
+    (stretch-few (stretch reached k) (reached-sound reached .rowsFit) rule (liveRows xs)))
+
+-- ---- Of what waits, a rule sees no more than its own table's part
+
+module _ {s : State} {xs tables : List ℕ} (p : Represents xs tables s) (k : ℕ) (low : k < 16) (rule : Rule)
+    (own : getD tables k 0 ≡ rule .table) where
+  pub woken-whole : any (λ e. wakes rule (e .1)) (waitsIn xs k) ≡ any (λ e. wakes rule (e .1)) (waits s k)
+  woken-whole = rw (p .waiting k low, own) (own-wakes rule (waits s k))
+
+  pub drawn-whole : {start : Image} → Reached start s → drawnFor xs k rule ≡ transition rule (s .image .rows) (waits s k)
+  unfolding drawnFor waits
+  drawn-whole reached =
+      let t = stretch reached k in
+      rw (p .waiting k low, own, p .rows)
+      (rw (t .ends) at (own-transition rule (since s k) (t .sound) (t .made)))

@@ -36,18 +36,18 @@ proper-slot {e} f t =
           (anElement (signed-fits (e .v3) (f .v3)) noElement)));
     }
 
-pub live-length : {s : State} {xs : List ℕ} {active : List Bool} → Represents xs active s
+pub live-length : {s : State} {xs tables : List ℕ} → Represents xs tables s
     → length (tableAt xs LIVE) ≡ length (s .image .rows)
 unfolding liveRows
 live-length {xs = xs} p = sym (rows-length (tableAt xs LIVE)) ∙ ap length (p .rows)
 
-pub fits-insert : {s : State} {xs : List ℕ} {active : List Bool} → Represents xs active s → (e : Slot) → e .handle ≡ word32At xs NEXT
+pub fits-insert : {s : State} {xs tables : List ℕ} → Represents xs tables s → (e : Slot) → e .handle ≡ word32At xs NEXT
     → Proper (rowMeant e) → length (tableAt xs LIVE) < ROWS → word32At xs NEXT < lastHandle → Fits (s .image) (inserts (rowMeant e))
 unfolding rowMeant
 fits-insert p e q proper room left =
     insertFits (q ∙ p .next) proper (omega (arith, live-length p)) (omega (arith, p .next))
 
-module _ {start : Image} {s : State} {xs : List ℕ} {active : List Bool} (reached : Reached start s) (p : Represents xs active s) where
+module _ {start : Image} {s : State} {xs tables : List ℕ} (reached : Reached start s) (p : Represents xs tables s) where
   pub fits-delete : (i : ℕ) → i < length (tableAt xs LIVE) → Fits (s .image) (deletes (rowMeant (getD (tableAt xs LIVE) i blank)))
   unfolding rowMeant
   fits-delete i b =

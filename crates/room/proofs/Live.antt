@@ -131,7 +131,7 @@ rows-stored h (suc i) new (e ∷ l) s b q = rw (head-other h i s (omega arith) q
 pub reached-sound : {start : Image} {s : State} → Reached start s → Sound (s .image)
 reached-sound r = rw (r .image) (makeAll-sound (r .sound) (r .made))
 
-module _ {start : Image} {s : State} {xs : List ℕ} {active : List Bool} (reached : Reached start s) (p : Represents xs active s) where
+module _ {start : Image} {s : State} {xs tables : List ℕ} (reached : Reached start s) (p : Represents xs tables s) where
   pub live-sorted : Sorted (tableAt xs LIVE)
   unfolding liveRows
   live-sorted =

@@ -18,8 +18,11 @@ use Rattle.words.specs.Words.{Bytes, word32At}
 use Rattle.words.proofs.Laws.{all-same}
 use Rattle.slots.specs.Slots.{tableAt}
 use Rattle.room.specs.Room.{NEXT, waitAt, Laid, waitMeant, liveRows, waitsIn}
+use Rattle.meaning.proofs.OwnTable.{ownOf}
+use Rattle.room.specs.Joins.{Ended}
 use Rattle.room.specs.Drawn.{Drew}
 use Rattle.room.specs.Represents.{Represents, Reached, madeAll}
+use Rattle.meaning.proofs.OwnTable.{own-none}
 use Rattle.room.proofs.Kept.{word-kept, live-kept}
 
 -- ---- A mark is moved
@@ -72,21 +75,22 @@ seen-other s k j e = rw (getD-set-other (s .marks) k j (length (s .done)) 0 (eqb
 
 -- ---- The room after a drawing
 
-pub drew : {s : State} {xs ys : List ℕ} {active : List Bool} {k : ℕ} {rule : Rule} → Represents xs active s → Drew xs ys k rule → Bytes ys
-    → k < length (s .marks) → Represents ys active (seen s k)
+pub drew : {s : State} {xs ys tables : List ℕ} {k : ℕ} {rule : Rule} → Represents xs tables s → Drew xs ys k rule → Bytes ys
+    → k < length (s .marks) → Represents ys tables (seen s k)
 unfolding seen waitsIn waitMeant
-drew {s} {xs} {ys} {active} {k} p d bytes mark =
+drew {s} {xs} {ys} {tables} {k} p d bytes mark =
     record {
       laid = d .laid;
       bytes = bytes;
       next = word-kept (d .before) NEXT (omega arith) (omega arith) ∙ p .next;
       rows = live-kept (d .before) (p .laid) (omega arith) (omega arith) ∙ p .rows;
-      waiting = λ j b a. go j b a (eqb j k) refl;
+      ended = p .ended;
+      waiting = λ j b. go j b (eqb j k) refl;
     }
   where
-    go : (j : ℕ) → j < 16 → getD active j false ≡ true → (t : Bool) → eqb j k ≡ t → waitsIn ys j ≡ waits (seen s k) j
-    go j b a true e = rw (eqb-true j k e, d .emptied) (sym (seen-none s k mark))
-    go j b a false e = ap waitMeant (d .others j b (eqb-false j k e)) ∙ p .waiting j b a ∙ sym (seen-other s k j e)
+    go : (j : ℕ) → j < 16 → (t : Bool) → eqb j k ≡ t → waitsIn ys j ≡ ownOf (getD tables j 0) (waits (seen s k) j)
+    go j b true e = rw (eqb-true j k e, d .emptied, seen-none s k mark) (sym (own-none (getD tables k 0)))
+    go j b false e = rw (seen-other s k j e) (ap waitMeant (d .others j b (eqb-false j k e)) ∙ p .waiting j b)
 
 -- ---- The start
 
@@ -104,16 +108,17 @@ unfolding starting makeAll
 reached-starting rules s =
     record { sound = s; made = noneMade; image = refl; marked = λ k. rw (all-same {A = ℕ} (length rules) k 0) (omega arith) }
 
-pub represents-starting : (rules : List Rule) {start : Image} {xs : List ℕ} {active : List Bool} → Laid xs → Bytes xs
+pub represents-starting : (rules : List Rule) {start : Image} {xs tables : List ℕ} → Laid xs → Bytes xs
     → word32At xs NEXT ≡ start .next → liveRows xs ≡ start .rows
-    → ((k : ℕ) → k < 16 → getD active k false ≡ true → tableAt xs (waitAt k) ≡ [])
-    → Represents xs active (starting rules start)
+    → ((k : ℕ) → k < 16 → tableAt xs (waitAt k) ≡ []) → Ended tables
+    → Represents xs tables (starting rules start)
 unfolding starting waits since waitsIn waitMeant
-represents-starting rules {start} laid bytes next rows empty =
+represents-starting rules {start} {tables = tables} laid bytes next rows empty ended =
     record {
       laid = laid;
       bytes = bytes;
       next = next;
       rows = rows;
-      waiting = λ k b a. rw (empty k b a, all-same {A = ℕ} (length rules) k 0) (sym netEffect-none);
+      ended = ended;
+      waiting = λ k b. rw (empty k b, all-same {A = ℕ} (length rules) k 0, netEffect-none) (sym (own-none (getD tables k 0)));
     }

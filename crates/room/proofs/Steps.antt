@@ -6,23 +6,31 @@ use mathlib.Core.Bool.{Bool, true, false}
 use mathlib.Core.List.{List, [], _∷_, _++_, append-nil, append-assoc}
 use Prim.Native.Nat.{ℕ, _+_, _≤_, _<_}
 use native.Mathlib.Omega.{arith}
+use lib.Dec.{eqb}
+use borrow.Author.Tests.{eqb-true}
 use lib.ListN.{length, getD, take, drop, set, length-append, take-append-drop}
 use lib.Seq.{drop-append-le}
+use Rattle.meaning.specs.Base.{if_then_else_}
 use Rattle.meaning.specs.Covers.{Row, Image}
-use Rattle.meaning.specs.RowOperations.{RowOperation, inserts, deletes, updates, handleOf, effectOf, make, makeAll, netEffect}
+use Rattle.meaning.specs.RowOperations.{RowOperation, inserts, deletes, updates, handleOf, deleted, updated, effectOf, make, makeAll, netEffect}
 use Rattle.meaning.specs.Processing.{State, since, waits}
-use Rattle.meaning.proofs.Made.{Sound, Fits, Made, more, Made.none as noneMade}
+use Rattle.meaning.proofs.Lists.{Each, anElement, eqb-self}
+use Rattle.meaning.proofs.Made.{Proper, Sound, Fits, insertFits, deleteFits, updateFits, Made, more, Made.none as noneMade}
 use Rattle.meaning.proofs.Lookups.{makeAll-append, made-front, made-back, made-append}
 use Rattle.meaning.proofs.Images.{makeAll-sound}
+use Rattle.meaning.proofs.NetEffects.{Listed, joinOperation, netEffect-listed}
 use Rattle.meaning.proofs.Capacity.{capacity}
+use Rattle.meaning.proofs.StepsFit.{RowOf, ofDeleted, ofUpdated, made-rows}
 use Rattle.words.specs.Words.{Bytes, word32At}
 use Rattle.slots.specs.declared.Slot.{Slot}
 use Rattle.slots.specs.Slots.{tableAt, removeAt, blank}
 use Rattle.room.specs.Room.{NEXT, LIVE, ENTRIES, waitAt, rowMeant, rowsMeant, effectMeant, waitMeant, liveRows, waitsIn}
-use Rattle.room.specs.Joins.{asEffect, joinSlots, joinIf, Joinable}
+use Rattle.room.specs.Joins.{asEffect, joinSlots, joinIf, concerns, Joinable}
 use Rattle.room.specs.Turned.{Turned}
 use Rattle.room.specs.Represents.{Represents, Reached, madeOne, madeAll, Says}
-use Rattle.room.proofs.Waits.{waits-sorted, waits-length, waits-more}
+use Rattle.meaning.proofs.OwnTable.{onTable, ownOf}
+use Rattle.meaning.proofs.OwnTable.{own-few, own-listed, own-more}
+use Rattle.room.proofs.Waits.{says-table, waits-sorted, waits-length, waits-more}
 use Rattle.room.proofs.Live.{reached-sound, live-sorted, rows-pushed, rows-removed, rows-stored}
 
 -- ---- Several operations
@@ -96,41 +104,93 @@ waits-few {start} {s} r k =
 
 -- ---- One operation
 
-module _ {start : Image} {s : State} {xs : List ℕ} {active : List Bool} (reached : Reached start s) (p : Represents xs active s) where
-  -- joined, a table means what waits then
-  pub waits-joined : {o : RowOperation} {op : Slot} → Says o op → (k : ℕ) → k < 16 → getD active k false ≡ true
-      → waitMeant (joinSlots op (tableAt xs (waitAt k))) ≡ waits (madeOne o s) k
-  unfolding waits waitsIn
-  waits-joined {o} {op} says k b a =
-      waits-more (tableAt xs (waitAt k)) (since s k) (p .waiting k b a) says ∙ ap netEffect (sym (since-more reached o k))
+-- a slot names the table that its operation is on
+names-table : (t : ℕ) {o : RowOperation} {op : Slot} → Says o op → onTable t (effectOf o) ≡ true → op .table ≡ t
+names-table t {o} {op} says on = eqb-true (op .table) t (sym (says-table t says) ∙ on)
 
-  pub joinable : {o : RowOperation} {op : Slot} → Fits (s .image) o → Says o op → Joinable xs active op
-  unfolding waits waitsIn
-  joinable {o} {op} f says =
+deleted-proper : {r : Row} → RowOf Proper (deleted r) → Proper r
+deleted-proper (ofDeleted p) = p
+
+updated-proper : {mask : ℕ} {r : Row} → RowOf Proper (updated mask r) → Proper r
+updated-proper (ofUpdated p) = p
+
+first-proper : {o : RowOperation} {os : List RowOperation} → Each (λ o. RowOf Proper (effectOf o)) (o ∷ os) → RowOf Proper (effectOf o)
+first-proper (anElement p ps) = p
+
+-- and an operation that fits is on one of the four
+fits-table : {m : Image} {o : RowOperation} {op : Slot} → Sound m → Fits m o → Says o op → op .table ≤ 3
+unfolding effectOf onTable
+fits-table sound (insertFits {r = r} a proper b c) says = rw (names-table (r .table) says (eqb-self (r .table))) (proper .tableFits)
+fits-table sound (deleteFits {r = r} found) says =
+    rw (names-table (r .table) says (eqb-self (r .table)))
+    (deleted-proper (first-proper (made-rows sound (more (deleteFits found) noneMade))) .tableFits)
+fits-table sound (updateFits {old = old} found only fine) says =
+    rw (names-table (old .table) says (eqb-self (old .table)))
+    (updated-proper (first-proper (made-rows sound (more (updateFits found only fine) noneMade))) .tableFits)
+
+-- the own table's part of what waits, by rising handle
+own-waits : (tables : List ℕ) (s : State) (k : ℕ) → Listed 0 (ownOf (getD tables k 0) (waits s k))
+unfolding waits
+own-waits tables s k = own-listed (getD tables k 0) (netEffect-listed (since s k))
+
+module _ {start : Image} {s : State} {xs tables : List ℕ} (reached : Reached start s) (p : Represents xs tables s)
+    {o : RowOperation} {op : Slot} (f : Fits (s .image) o) (says : Says o op) where
+  -- what waits then, of a rule's own table
+  waits-then : (k : ℕ)
+      → ownOf (getD tables k 0) (waits (madeOne o s) k)
+      ≡ (if onTable (getD tables k 0) (effectOf o) then joinOperation o (ownOf (getD tables k 0) (waits s k)) else ownOf (getD tables k 0) (waits s k))
+  unfolding waits
+  waits-then k =
+      let t = stretch (reached-one reached f) k in
+      rw (since-more reached o k)
+      (own-more (getD tables k 0) (since s k) o (t .sound) (rw (since-more reached o k) at (t .made)))
+
+  -- joined if it is the operation's, a table means that
+  pub waits-joined : (k : ℕ) → k < 16
+      → waitMeant (joinIf (concerns tables op k) op (tableAt xs (waitAt k))) ≡ ownOf (getD tables k 0) (waits (madeOne o s) k)
+  unfolding waitsIn joinIf concerns
+  waits-joined k b = go (eqb (op .table) (getD tables k 0)) refl
+    where
+      go : (c : Bool) → eqb (op .table) (getD tables k 0) ≡ c
+          → waitMeant (joinIf c op (tableAt xs (waitAt k))) ≡ ownOf (getD tables k 0) (waits (madeOne o s) k)
+      go true e =
+          waits-more (tableAt xs (waitAt k)) (ownOf (getD tables k 0) (waits s k)) (own-waits tables s k) (p .waiting k b) says
+          ∙ sym (rw (says-table (getD tables k 0) says, e) at (waits-then k))
+      go false e = p .waiting k b ∙ sym (rw (says-table (getD tables k 0) says, e) at (waits-then k))
+
+  pub joinable : Joinable xs tables op
+  unfolding waitsIn joinIf
+  joinable =
       record {
         laid = p .laid;
+        ended = p .ended;
+        within = fits-table (reached-sound reached) f says;
         takes = λ k b a.
+            let joined : waitMeant (joinSlots op (tableAt xs (waitAt k))) ≡ ownOf (getD tables k 0) (waits (madeOne o s) k) =
+            rw a at (waits-joined k b) in
             record {
-              sorted = waits-sorted (tableAt xs (waitAt k)) (since s k) (p .waiting k b a);
+              sorted = waits-sorted (tableAt xs (waitAt k)) (ownOf (getD tables k 0) (waits s k)) (own-waits tables s k) (p .waiting k b);
               fits =
-                  rw (waits-length (joinSlots op (tableAt xs (waitAt k))) (since (madeOne o s) k) (waits-joined says k b a))
-                  (waits-few (reached-one reached f) k);
+                  omega (
+                    arith,
+                    waits-length (joinSlots op (tableAt xs (waitAt k))) (ownOf (getD tables k 0) (waits (madeOne o s) k)) joined,
+                    own-few (getD tables k 0) (waits (madeOne o s) k),
+                    waits-few (reached-one reached f) k,
+                  );
             };
       }
 
-  pub turned : {o : RowOperation} {op : Slot} {ys : List ℕ} {live : List Slot} {next : ℕ} → Says o op → Bytes ys
-      → Turned xs ys active live next op → rowsMeant live ≡ make o (s .image) .rows → next ≡ make o (s .image) .next
-      → Represents ys active (madeOne o s)
-  unfolding madeOne liveRows waitsIn joinIf
-  turned {o} {op} {ys} {live} {next} says bytes t rows handle =
+  pub turned : {ys : List ℕ} {live : List Slot} {next : ℕ} → Bytes ys → Turned xs ys tables live next op
+      → rowsMeant live ≡ make o (s .image) .rows → next ≡ make o (s .image) .next → Represents ys tables (madeOne o s)
+  unfolding madeOne liveRows waitsIn
+  turned bytes t rows handle =
       record {
         laid = t .laid;
         bytes = bytes;
         next = t .handle ∙ handle;
         rows = ap rowsMeant (t .rows) ∙ rows;
-        waiting = λ k b a.
-            let w : tableAt ys (waitAt k) ≡ joinSlots op (tableAt xs (waitAt k)) = rw a at (t .waits k b) in
-            ap waitMeant w ∙ waits-joined says k b a;
+        ended = p .ended;
+        waiting = λ k b. ap waitMeant (t .waits k b) ∙ waits-joined k b;
       }
 
 -- ---- What the slot of an operation says
@@ -149,30 +209,32 @@ says-update mask old new = record { handle = refl; effect = refl }
 
 -- ---- An insert, a delete, an update
 
-module _ {start : Image} {s : State} {xs ys : List ℕ} {active : List Bool} {next : ℕ} (reached : Reached start s)
-    (p : Represents xs active s) (bytes : Bytes ys) where
-  pub turned-insert : (e : Slot) → next ≡ word32At xs NEXT + 1 → Turned xs ys active (tableAt xs LIVE ++ (e ∷ [])) next (asEffect 1 0 e)
-      → Represents ys active (madeOne (inserts (rowMeant e)) s)
+module _ {start : Image} {s : State} {xs ys tables : List ℕ} {next : ℕ} (reached : Reached start s)
+    (p : Represents xs tables s) (bytes : Bytes ys) where
+  pub turned-insert : (e : Slot) → Fits (s .image) (inserts (rowMeant e)) → next ≡ word32At xs NEXT + 1 → Turned xs ys tables (tableAt xs LIVE ++ (e ∷ [])) next (asEffect 1 0 e)
+      → Represents ys tables (madeOne (inserts (rowMeant e)) s)
   unfolding make liveRows
-  turned-insert e q t =
-      turned reached p (says-insert e) bytes t
+  turned-insert e f q t =
+      turned reached p f (says-insert e) bytes t
       (rows-pushed (tableAt xs LIVE) e ∙ ap (λ (rs : List Row). rs ++ (rowMeant e ∷ [])) (p .rows))
       (omega (arith, p .next))
 
-  pub turned-delete : (i : ℕ) → i < length (tableAt xs LIVE) → next ≡ word32At xs NEXT
-      → Turned xs ys active (removeAt i (tableAt xs LIVE)) next (asEffect 2 0 (getD (tableAt xs LIVE) i blank))
-      → Represents ys active (madeOne (deletes (rowMeant (getD (tableAt xs LIVE) i blank))) s)
+  pub turned-delete : (i : ℕ) → i < length (tableAt xs LIVE)
+      → Fits (s .image) (deletes (rowMeant (getD (tableAt xs LIVE) i blank))) → next ≡ word32At xs NEXT
+      → Turned xs ys tables (removeAt i (tableAt xs LIVE)) next (asEffect 2 0 (getD (tableAt xs LIVE) i blank))
+      → Represents ys tables (madeOne (deletes (rowMeant (getD (tableAt xs LIVE) i blank))) s)
   unfolding make liveRows rowMeant
-  turned-delete i b q t =
-      turned reached p (says-delete (getD (tableAt xs LIVE) i blank)) bytes t
+  turned-delete i b f q t =
+      turned reached p f (says-delete (getD (tableAt xs LIVE) i blank)) bytes t
       (rows-removed (getD (tableAt xs LIVE) i blank .handle) i (tableAt xs LIVE) (live-sorted reached p) b refl ∙ rw (p .rows))
       (q ∙ p .next)
 
-  pub turned-update : (mask i : ℕ) (new : Slot) → i < length (tableAt xs LIVE) → next ≡ word32At xs NEXT
-      → Turned xs ys active (set (tableAt xs LIVE) i new) next (asEffect 3 mask (getD (tableAt xs LIVE) i blank))
-      → Represents ys active (madeOne (updates mask (rowMeant (getD (tableAt xs LIVE) i blank)) (rowMeant new)) s)
+  pub turned-update : (mask i : ℕ) (new : Slot) → i < length (tableAt xs LIVE)
+      → Fits (s .image) (updates mask (rowMeant (getD (tableAt xs LIVE) i blank)) (rowMeant new)) → next ≡ word32At xs NEXT
+      → Turned xs ys tables (set (tableAt xs LIVE) i new) next (asEffect 3 mask (getD (tableAt xs LIVE) i blank))
+      → Represents ys tables (madeOne (updates mask (rowMeant (getD (tableAt xs LIVE) i blank)) (rowMeant new)) s)
   unfolding make liveRows rowMeant
-  turned-update mask i new b q t =
-      turned reached p (says-update mask (getD (tableAt xs LIVE) i blank) new) bytes t
+  turned-update mask i new b f q t =
+      turned reached p f (says-update mask (getD (tableAt xs LIVE) i blank) new) bytes t
       (rows-stored (getD (tableAt xs LIVE) i blank .handle) i new (tableAt xs LIVE) (live-sorted reached p) b refl ∙ rw (p .rows))
       (q ∙ p .next)

@@ -10,12 +10,13 @@ use lib.Dec.{eqb, ltb}
 use lib.ListN.{length, getD, length-map}
 use borrow.Author.Tests.{eqb-true}
 use Rattle.meaning.specs.RowOperations.{RowOperation, inserts, deletes, updates, Effect, NetEffect, nothing, inserted, deleted, updated}
-use Rattle.meaning.specs.RowOperations.{kind, joinTable, joinKind, over, joinedAs, join, effectOf, entry, netEffect}
-use Rattle.meaning.proofs.NetEffects.{joinInto, joinOperation, Listed, oneEntry, netEffect-more, netEffect-listed}
+use Rattle.meaning.specs.RowOperations.{kind, joinTable, joinKind, over, joinedAs, join, effectOf, entry}
+use Rattle.meaning.proofs.NetEffects.{joinInto, joinOperation, Listed, oneEntry}
 use Rattle.slots.specs.declared.Slot.{Slot}
 use Rattle.slots.specs.Slots.{blank, Sorted}
 use Rattle.room.specs.Room.{rowMeant, effectMeant, entryMeant, waitMeant}
 use Rattle.room.specs.Joins.{asEffect, joinedSlot, joinSlot, keptSlot, joinSlots}
+use Rattle.meaning.proofs.OwnTable.{onTable}
 use Rattle.room.specs.Represents.{Says}
 
 unfoldable meant : Unit {0}
@@ -103,18 +104,31 @@ effect-some (inserts r) q = let z : _≡_ {A = ℕ} 0 1 = cc in omega arith
 effect-some (deletes r) q = let z : _≡_ {A = ℕ} 0 1 = cc in omega arith
 effect-some (updates m old new) q = let z : _≡_ {A = ℕ} 0 1 = cc in omega arith
 
-module _ (l : List Slot) (os : List RowOperation) (w : waitMeant l ≡ netEffect os) where
+-- a slot is on the table that it names
+slot-table : (t : ℕ) (e : Slot) → effectMeant e ≢ nothing → onTable t (effectMeant e) ≡ eqb (e .table) t
+unfolding meant onTable
+slot-table t e n = go (kind-of e n)
+  where
+    go : Kind e → onTable t (effectMeant e) ≡ eqb (e .table) t
+    go (one p) = rw p
+    go (two p) = rw p
+    go (three p) = rw p
+
+-- so is an operation on the table that its slot names
+pub says-table : (t : ℕ) {o : RowOperation} {op : Slot} → Says o op → onTable t (effectOf o) ≡ eqb (op .table) t
+says-table t {o} {op} s = rw (← s .effect) (slot-table t op (λ q. effect-some o (sym (s .effect) ∙ q)))
+
+pub waits-length : (l : List Slot) (es : NetEffect) → waitMeant l ≡ es → length l ≡ length es
+unfolding waitMeant
+waits-length l es w = sym (length-map l entryMeant) ∙ ap length w
+
+module _ (l : List Slot) (es : NetEffect) (listed : Listed 0 es) (w : waitMeant l ≡ es) where
   waits-listed : Listed 0 (waitMeant l)
-  waits-listed = rw w (netEffect-listed os)
+  waits-listed = rw w listed
 
   pub waits-sorted : Sorted l
   waits-sorted = record { rises = listed-rises l waits-listed }
 
-  pub waits-length : length l ≡ length (netEffect os)
-  unfolding waitMeant
-  waits-length = sym (length-map l entryMeant) ∙ ap length w
-
-  pub waits-more : {o : RowOperation} {op : Slot} → Says o op → waitMeant (joinSlots op l) ≡ netEffect (os ++ (o ∷ []))
+  pub waits-more : {o : RowOperation} {op : Slot} → Says o op → waitMeant (joinSlots op l) ≡ joinOperation o es
   unfolding joinOperation
-  waits-more {o} {op} s =
-      table-join op l (λ q. effect-some o (sym (s .effect) ∙ q)) waits-listed ∙ rw (s .effect, s .handle, w) (sym (netEffect-more os o))
+  waits-more {o} {op} s = table-join op l (λ q. effect-some o (sym (s .effect) ∙ q)) waits-listed ∙ rw (s .effect, s .handle, w)

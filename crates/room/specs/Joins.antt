@@ -37,7 +37,7 @@ joinSlots op (e ∷ l) =
     if ltb (e .handle) (op .handle) then e ∷ joinSlots op l else
     if eqb (e .handle) (op .handle) then keptSlot (joinSlot e op) l else op ∷ e ∷ l
 
--- an active rule's table is joined, another's stays
+-- a table of what waits for a rule on the operation's own table is joined, another stays
 unfoldable pub joinIf : Bool → Slot → List Slot → List Slot
 joinIf true op l = joinSlots op l
 joinIf false op l = l
@@ -47,13 +47,23 @@ pub record Takes (op : Slot) (l : List Slot) : Type 0 where
   pub sorted : Sorted l
   pub fits : length (joinSlots op l) ≤ ENTRIES
 
--- the table of every active rule can
-pub record Joinable (xs : List ℕ) (active : List Bool) (op : Slot) : Type 0 where
-  pub laid : Laid xs
-  pub takes : (k : ℕ) → k < 16 → getD active k false ≡ true → Takes op (tableAt xs (waitAt k))
+-- Each rule's own table: 0..3, or 4 for a rule that is not active. Past the last rule, and nowhere before, it is 5.
+pub record Ended (tables : List ℕ) : Type 0 where
+  pub stays : (j k : ℕ) → j ≤ k → k < 16 → 4 < getD tables j 0 → 4 < getD tables k 0
 
--- the operation joined what waits for every active rule, and nothing else changed
-pub record AllJoined (xs ys : List ℕ) (active : List Bool) (op : Slot) : Type 0 where
+-- the operation is on the own table of rule k
+unfoldable pub concerns : List ℕ → Slot → ℕ → Bool
+concerns tables op k = eqb (op .table) (getD tables k 0)
+
+-- what waits for each rule on the operation's own table can take it
+pub record Joinable (xs tables : List ℕ) (op : Slot) : Type 0 where
+  pub laid : Laid xs
+  pub ended : Ended tables
+  pub within : op .table ≤ 3
+  pub takes : (k : ℕ) → k < 16 → concerns tables op k ≡ true → Takes op (tableAt xs (waitAt k))
+
+-- the operation joined what waits for each rule on its own table, and nothing else changed
+pub record AllJoined (xs ys tables : List ℕ) (op : Slot) : Type 0 where
   pub frame : Frame WAITS END xs ys
   pub stands : (k : ℕ) → k < 16 → Stands (waitAt k) ENTRIES ys
-  pub tables : (k : ℕ) → k < 16 → tableAt ys (waitAt k) ≡ joinIf (getD active k false) op (tableAt xs (waitAt k))
+  pub waits : (k : ℕ) → k < 16 → tableAt ys (waitAt k) ≡ joinIf (concerns tables op k) op (tableAt xs (waitAt k))

@@ -1,6 +1,5 @@
 -- The working room represents a state of the specification: the one thing that connects the two worlds.
 use mathlib.Core.Path.{_≡_}
-use mathlib.Core.Bool.{Bool, true, false}
 use mathlib.Core.List.{List, [], _∷_, _++_}
 use Prim.Native.Nat.{ℕ, _≤_, _<_}
 use lib.ListN.{length, getD}
@@ -10,15 +9,19 @@ use Rattle.meaning.specs.Processing.{State, waits}
 use Rattle.meaning.proofs.Made.{Sound, Made}
 use Rattle.words.specs.Words.{Bytes, word32At}
 use Rattle.slots.specs.declared.Slot.{Slot}
+use Rattle.meaning.proofs.OwnTable.{ownOf}
+use Rattle.room.specs.Joins.{Ended}
 use Rattle.room.specs.Room.{NEXT, Laid, effectMeant, liveRows, waitsIn}
 
--- live rows and next handle are the image's; what waits for each active rule is what the specification says waits for it
-pub record Represents (xs : List ℕ) (active : List Bool) (s : State) : Type 0 where
+-- live rows and next handle are the image's; what waits for each rule is, of what the specification says waits for it, what is on the
+-- rule's own table, since nothing else wakes it or is shown to it
+pub record Represents (xs tables : List ℕ) (s : State) : Type 0 where
   pub laid : Laid xs
   pub bytes : Bytes xs
   pub next : word32At xs NEXT ≡ s .image .next
   pub rows : liveRows xs ≡ s .image .rows
-  pub waiting : (k : ℕ) → k < 16 → getD active k false ≡ true → waitsIn xs k ≡ waits s k
+  pub ended : Ended tables
+  pub waiting : (k : ℕ) → k < 16 → waitsIn xs k ≡ ownOf (getD tables k 0) (waits s k)
 
 -- a state that a run reaches from a sound start image: its operations fit one after another
 pub record Reached (start : Image) (s : State) : Type 0 where
@@ -28,11 +31,11 @@ pub record Reached (start : Image) (s : State) : Type 0 where
   pub marked : (k : ℕ) → getD (s .marks) k 0 ≤ length (s .done)
 
 -- a room that represents such a state
-pub record Running (xs : List ℕ) (active : List Bool) : Type 0 where
+pub record Running (xs tables : List ℕ) : Type 0 where
   pub start : Image
   pub state : State
   pub reached : Reached start state
-  pub represents : Represents xs active state
+  pub represents : Represents xs tables state
 
 -- one operation more, and several
 unfoldable pub madeOne : RowOperation → State → State

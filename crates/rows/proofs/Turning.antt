@@ -19,7 +19,7 @@ use Rattle.slots.proofs.Frames.{frame-wider, frame-join, word-kept-below, PutWo
 use Rattle.slots.proofs.Tables.{table-length, table-kept-below, table-kept-above, stands-kept-above}
 use Rattle.slots.proofs.Order.{find-at}
 use Rattle.room.specs.Room.{NEXT, LIVE, INSERTED, ROWS, waitAt, Laid}
-use Rattle.room.specs.Joins.{asEffect, joinIf, Joinable, AllJoined}
+use Rattle.room.specs.Joins.{asEffect, joinIf, concerns, Joinable, AllJoined}
 use Rattle.room.specs.Turned.{Turned}
 use Rattle.room.proofs.Kept.{laid-front, laid-behind}
 use Rattle.rows.specs.declared.Looked.the-variants.{Made}
@@ -64,29 +64,31 @@ module _ {xs ys : List ℕ} {live : List Slot} {n : ℕ} (f : Front xs ys live n
   front-waits l k h = table-kept-above (f .frame) (waitAt k) 128 (l .waits k h) (omega arith)
 
   -- an operation that could join still can
-  pub front-joinable : {active : List Bool} {op : Slot} → Joinable xs active op → Joinable ys active op
+  pub front-joinable : {tables : List ℕ} {op : Slot} → Joinable xs tables op → Joinable ys tables op
   front-joinable j =
       record {
         laid = front-laid (j .laid);
+        ended = j .ended;
+        within = j .within;
         takes = λ k h e. rw (front-waits (j .laid) k h) (j .takes k h e);
       }
 
 -- ---- Behind: what waits for the rules
 
 -- the tables in front of it stand as they did
-pub joined-laid : {xs ys : List ℕ} {active : List Bool} {op : Slot} → Laid xs → AllJoined xs ys active op → Laid ys
+pub joined-laid : {xs ys tables : List ℕ} {op : Slot} → Laid xs → AllJoined xs ys tables op → Laid ys
 joined-laid l a = laid-behind l (a .frame) (a .stands)
 
 -- both
-pub front-turned : {xs ys zs : List ℕ} {active : List Bool} {live : List Slot} {n : ℕ} {op : Slot} → Laid xs → Front xs ys live n
-    → AllJoined ys zs active op → Turned xs zs active live n op
+pub front-turned : {xs ys zs tables : List ℕ} {live : List Slot} {n : ℕ} {op : Slot} → Laid xs → Front xs ys live n
+    → AllJoined ys zs tables op → Turned xs zs tables live n op
 unfolding tableBytes
-front-turned {xs} {ys} {zs} {active} {live} {n} {op} l f a =
+front-turned {xs} {ys} {zs} {tables} {live} {n} {op} l f a =
     record {
       laid = joined-laid (front-laid f l) a;
       rows = table-kept-below (a .frame) LIVE ROWS (f .stands) (omega arith) ∙ f .rows;
       handle = word-kept-below (a .frame) NEXT (omega arith) ∙ f .handle;
-      waits = λ k h. a .tables k h ∙ ap (joinIf (getD active k false) op) (front-waits f l k h);
+      waits = λ k h. a .waits k h ∙ ap (joinIf (concerns tables op k) op) (front-waits f l k h);
       between =
           record {
             len = a .frame .len ∙ f .frame .len;
@@ -110,12 +112,12 @@ module _ {xs ys zs : List ℕ} {new : Slot} (h table : ℕ) (e : Slot) (is : h �
   inserted-front : Front xs zs (tableAt xs LIVE ++ (insertedSlot xs table e ∷ [])) (suc (word32At xs NEXT))
   inserted-front = rw (← inserted-is, ← is, ← add-one h) (front-numbered (front-held held) put)
 
-  module _ {active : List Bool} {op : Slot} (tells : op ≡ asEffect 1 0 new)
-      (can : Joinable xs active (asEffect 1 0 (insertedSlot xs table e))) where
-    pub insert-joinable : Joinable zs active op
+  module _ {tables : List ℕ} {op : Slot} (tells : op ≡ asEffect 1 0 new)
+      (can : Joinable xs tables (asEffect 1 0 (insertedSlot xs table e))) where
+    pub insert-joinable : Joinable zs tables op
     insert-joinable = rw (tells, inserted-is) (front-joinable inserted-front can)
 
-    pub insert-turned : {ws : List ℕ} → AllJoined zs ws active op → Inserted xs ws active table e
+    pub insert-turned : {ws : List ℕ} → AllJoined zs ws tables op → Inserted xs ws tables table e
     insert-turned a = front-turned (can .laid) inserted-front (rw (tells, inserted-is) at a)
 
 -- ---- A delete and an update: of the row that was found
@@ -133,21 +135,21 @@ module _ (xs : List ℕ) {r : Found} (h i : ℕ) (asked : r ≡ findIn h (tableA
     unfolding operationAt
     told-is = tells ∙ rw read
 
-    pub found-joinable : {active : List Bool} → CanJoin xs active kind mask (findIn h (tableAt xs LIVE)) → Joinable ys active op
+    pub found-joinable : {tables : List ℕ} → CanJoin xs tables kind mask (findIn h (tableAt xs LIVE)) → Joinable ys tables op
     found-joinable can = rw told-is (front-joinable (front-held held) (rw found-at at can))
 
-    pub found-turned : {active : List Bool} {zs : List ℕ} → Laid xs → AllJoined ys zs active op
-        → Turned xs zs active live (word32At xs NEXT) (operationAt xs kind mask i)
+    pub found-turned : {tables zs : List ℕ} → Laid xs → AllJoined ys zs tables op
+        → Turned xs zs tables live (word32At xs NEXT) (operationAt xs kind mask i)
     found-turned l a = front-turned l (front-held held) (rw told-is at a)
 
-  pub found-deleted : {active : List Bool} {zs : List ℕ}
-      → Turned xs zs active (removeAt i (tableAt xs LIVE)) (word32At xs NEXT) (operationAt xs 2 0 i)
-      → Deleted xs zs active (findIn h (tableAt xs LIVE)) Made
+  pub found-deleted : {tables zs : List ℕ}
+      → Turned xs zs tables (removeAt i (tableAt xs LIVE)) (word32At xs NEXT) (operationAt xs 2 0 i)
+      → Deleted xs zs tables (findIn h (tableAt xs LIVE)) Made
   found-deleted t = rw found-at t
 
-  pub found-updated : (mask : ℕ) (new : Slot) {active : List Bool} {zs : List ℕ}
-      → Turned xs zs active (set (tableAt xs LIVE) i new) (word32At xs NEXT) (operationAt xs 3 mask i)
-      → Updated xs zs active mask new (findIn h (tableAt xs LIVE)) Made
+  pub found-updated : (mask : ℕ) (new : Slot) {tables zs : List ℕ}
+      → Turned xs zs tables (set (tableAt xs LIVE) i new) (word32At xs NEXT) (operationAt xs 3 mask i)
+      → Updated xs zs tables mask new (findIn h (tableAt xs LIVE)) Made
   found-updated mask new t = rw found-at t
 
 -- ---- Space

@@ -1,7 +1,6 @@
 -- Steps one after another are one step: where the first goes on, its row operations fit, so that the state after it is reached and the
 -- second acts on it; where the first ends the run, so do both. A loop keeps what is owed for the rest (`Onward`).
 use mathlib.Core.Path.{_≡_, refl, _∙_}
-use mathlib.Core.Bool.{Bool}
 use mathlib.Core.List.{List, [], _++_}
 use Prim.Native.Nat.{ℕ}
 use lib.ListN.{length}
@@ -42,23 +41,23 @@ ends-made {m} {r} {o} {os} g e = go (rw e at g)
 -- ---- A step that goes on
 
 -- the state after it, which is reached
-pub record After (start : Image) (s : State) (ys : List ℕ) (active : List Bool) (r : Result) : Type 0 where
+pub record After (start : Image) (s : State) (ys tables : List ℕ) (r : Result) : Type 0 where
   pub new : List RowOperation
   pub is : r ≡ went new
   pub made : Made (s .image) new
   pub reached : Reached start (madeAll new s)
-  pub represents : Represents ys active (madeAll new s)
+  pub represents : Represents ys tables (madeAll new s)
 
-module _ {start : Image} {s : State} {ys : List ℕ} {active : List Bool} (reached : Reached start s) where
-  went-after : {r : Result} → MadeOf (s .image) r → Follows ys active s r Went → After start s ys active r
+module _ {start : Image} {s : State} {ys tables : List ℕ} (reached : Reached start s) where
+  went-after : {r : Result} → MadeOf (s .image) r → Follows ys tables s r Went → After start s ys tables r
   went-after (wentMade {os = os} g) (goesOn p) =
       record { new = os; is = refl; made = g; reached = reached-all reached g; represents = p }
 
-module _ {xs ys : List ℕ} {active : List Bool} {f : Image → Result} (makes : Makes f) (acts : Acts xs ys active f Went) where
-  pub acts-after : {start : Image} {s : State} → Reached start s → Represents xs active s → After start s ys active (f (s .image))
+module _ {xs ys tables : List ℕ} {f : Image → Result} (makes : Makes f) (acts : Acts xs ys tables f Went) where
+  pub acts-after : {start : Image} {s : State} → Reached start s → Represents xs tables s → After start s ys tables (f (s .image))
   acts-after {start} {s} reached p = went-after reached (makes .fit (s .image) (reached-sound reached)) (acts .follows start s reached p)
 
-  pub acts-running : Running xs active → Running ys active
+  pub acts-running : Running xs tables → Running ys tables
   acts-running run =
       let after = acts-after (run .reached) (run .represents) in
       record {
@@ -70,17 +69,17 @@ module _ {xs ys : List ℕ} {active : List Bool} {f : Image → Result} (makes :
 
 -- ---- One step and then another
 
-following-follows : {zs : List ℕ} {active : List Bool} {s : State} {r : Result} {step : Step} (os : List RowOperation)
-    → Follows zs active (madeAll os s) r step → Follows zs active s (following os r) step
+following-follows : {zs tables : List ℕ} {s : State} {r : Result} {step : Step} (os : List RowOperation)
+    → Follows zs tables (madeAll os s) r step → Follows zs tables s (following os r) step
 unfolding following
 following-follows {s = s} os (goesOn {os = new} p) = goesOn {os = os ++ new} (rw (madeAll-append os new s) p)
 following-follows {s = s} os (rollsBack {os = new} p) = rollsBack {os = os ++ new} (rw (madeAll-append os new s) p)
 following-follows {s = s} os (fails {r = reason} {os = new} p) = fails {r = reason} {os = os ++ new} (rw (madeAll-append os new s) p)
 
-pub acts-then : {xs ys zs : List ℕ} {active : List Bool} {f g : Image → Result} {step : Step} → Makes f → Acts xs ys active f Went
-    → Acts ys zs active g step → Acts xs zs active (λ m. andThen m (f m) g) step
+pub acts-then : {xs ys zs tables : List ℕ} {f g : Image → Result} {step : Step} → Makes f → Acts xs ys tables f Went
+    → Acts ys zs tables g step → Acts xs zs tables (λ m. andThen m (f m) g) step
 unfolding andThen madeAll
-acts-then {xs} {ys} {zs} {active} {f} {g} {step} makes one two =
+acts-then {xs} {ys} {zs} {tables} {f} {g} {step} makes one two =
     let same : length ys ≡ length xs = one .beyond .len in
     record {
       laid = two .laid;
@@ -98,14 +97,14 @@ pub data Ends : Step → Type 0 where
   endsRolledBack : Ends RolledBack
   endsFailed : {r : Reason} → Ends (Failed r)
 
-ends-follows : {ys : List ℕ} {active : List Bool} {s : State} {r : Result} {step : Step} (m : Image) (g : Image → Result) → Ends step
-    → Follows ys active s r step → Follows ys active s (andThen m r g) step
+ends-follows : {ys tables : List ℕ} {s : State} {r : Result} {step : Step} (m : Image) (g : Image → Result) → Ends step
+    → Follows ys tables s r step → Follows ys tables s (andThen m r g) step
 unfolding andThen
 ends-follows m g endsRolledBack (rollsBack p) = rollsBack p
 ends-follows m g endsFailed (fails {r = r} p) = fails {r = r} p
 
-pub acts-ends : {xs ys : List ℕ} {active : List Bool} {f : Image → Result} {step : Step} (g : Image → Result) → Ends step
-    → Acts xs ys active f step → Acts xs ys active (λ m. andThen m (f m) g) step
+pub acts-ends : {xs ys tables : List ℕ} {f : Image → Result} {step : Step} (g : Image → Result) → Ends step
+    → Acts xs ys tables f step → Acts xs ys tables (λ m. andThen m (f m) g) step
 acts-ends g end one =
     record {
       laid = one .laid;
@@ -115,7 +114,7 @@ acts-ends g end one =
     }
 
 -- nothing is a step
-pub acts-nothing : {xs : List ℕ} {active : List Bool} → Running xs active → Acts xs xs active (λ m. went []) Went
+pub acts-nothing : {xs tables : List ℕ} → Running xs tables → Acts xs xs tables (λ m. went []) Went
 acts-nothing run =
     record {
       laid = run .represents .laid;
@@ -128,20 +127,20 @@ acts-nothing run =
 
 -- Between its start and now: the room is that of a run, its transition tables are the same, and what the rest does from now on is what the
 -- whole does from the start.
-pub record Onward (xs ys : List ℕ) (active : List Bool) (whole rest : Image → Result) : Type 0 where
-  pub running : Running ys active
+pub record Onward (xs ys tables : List ℕ) (whole rest : Image → Result) : Type 0 where
+  pub running : Running ys tables
   pub shown : transitionIn ys ≡ transitionIn xs
-  pub acts : (zs : List ℕ) (step : Step) → Acts ys zs active rest step → Acts xs zs active whole step
+  pub acts : (zs : List ℕ) (step : Step) → Acts ys zs tables rest step → Acts xs zs tables whole step
 
-pub onward-start : {xs : List ℕ} {active : List Bool} (f : Image → Result) → Running xs active → Onward xs xs active f f
+pub onward-start : {xs tables : List ℕ} (f : Image → Result) → Running xs tables → Onward xs xs tables f f
 onward-start f run = record { running = run; shown = refl; acts = λ zs step a. a }
 
-module _ {xs ys : List ℕ} {active : List Bool} {whole : Image → Result} where
-  pub onward-done : Onward xs ys active whole (λ m. went []) → Acts xs ys active whole Went
+module _ {xs ys tables : List ℕ} {whole : Image → Result} where
+  pub onward-done : Onward xs ys tables whole (λ m. went []) → Acts xs ys tables whole Went
   onward-done on = on .acts ys Went (acts-nothing (on .running))
 
-  module _ {zs : List ℕ} {f : Image → Result} (g : Image → Result) (on : Onward xs ys active whole (λ m. andThen m (f m) g)) where
-    pub onward-more : Makes f → Acts ys zs active f Went → Onward xs zs active whole g
+  module _ {zs : List ℕ} {f : Image → Result} (g : Image → Result) (on : Onward xs ys tables whole (λ m. andThen m (f m) g)) where
+    pub onward-more : Makes f → Acts ys zs tables f Went → Onward xs zs tables whole g
     onward-more makes a =
         record {
           running = acts-running makes a (on .running);
@@ -149,5 +148,5 @@ module _ {xs ys : List ℕ} {active : List Bool} {whole : Image → Result} wher
           acts = λ ws step b. on .acts ws step (acts-then makes a b);
         }
 
-    pub onward-ends : {step : Step} → Ends step → Acts ys zs active f step → Acts xs zs active whole step
+    pub onward-ends : {step : Step} → Ends step → Acts ys zs tables f step → Acts xs zs tables whole step
     onward-ends {step} end a = on .acts zs step (acts-ends g end a)

@@ -1,7 +1,6 @@
 -- A loop that reads one thing after another and runs each: what is left to read, run from the room now, does what all of it does from the
 -- room at the start. So it is with the operations of a log and with the actions of a rule; and what they make fits.
 use mathlib.Core.Path.{_≡_, refl}
-use mathlib.Core.Bool.{Bool}
 use mathlib.Core.List.{List, [], _∷_}
 use Prim.Native.Nat.{ℕ, _-_, _≤_, _<_}
 use Rattle.meaning.specs.Reading.{Parser, bad, got}
@@ -40,34 +39,34 @@ actions-series t = record { nothing = refl; more = λ a others. refl }
 -- ---- The loop
 
 -- of `count` things from a place on, those that are left, from here on
-pub record Left {A : Type 0} (p : Parser A) (run : List A → Image → Result) (s xs ys : List ℕ) (active : List Bool)
+pub record Left {A : Type 0} (p : Parser A) (run : List A → Image → Result) (s xs ys tables : List ℕ)
     (count from left here : ℕ) : Type 0 where
-  pub onward : Onward xs ys active (run (readable count p s from)) (run (readable left p s here))
+  pub onward : Onward xs ys tables (run (readable count p s from)) (run (readable left p s here))
 
-pub left-start : {A : Type 0} (p : Parser A) (run : List A → Image → Result) (s : List ℕ) {xs : List ℕ} {active : List Bool}
-    (count from : ℕ) → Running xs active → Left p run s xs xs active count from count from
+pub left-start : {A : Type 0} (p : Parser A) (run : List A → Image → Result) (s : List ℕ) {xs tables : List ℕ}
+    (count from : ℕ) → Running xs tables → Left p run s xs xs tables count from count from
 left-start p run s count from running = record { onward = onward-start (run (readable count p s from)) running }
 
-module _ {A : Type 0} {p : Parser A} {step : A → Image → Result} {run : List A → Image → Result} {s xs ys : List ℕ}
-    {active : List Bool} {count from left here : ℕ} (series : Series step run) (l : Left p run s xs ys active count from left here) where
-  left-nothing : readable left p s here ≡ [] → Acts xs ys active (run (readable count p s from)) Went
+module _ {A : Type 0} {p : Parser A} {step : A → Image → Result} {run : List A → Image → Result} {s xs ys tables : List ℕ}
+    {count from left here : ℕ} (series : Series step run) (l : Left p run s xs ys tables count from left here) where
+  left-nothing : readable left p s here ≡ [] → Acts xs ys tables (run (readable count p s from)) Went
   left-nothing e = onward-done (rw (e, series .nothing) at (l .onward))
 
-  pub left-done : left ≤ 0 → Acts xs ys active (run (readable count p s from)) Went
+  pub left-done : left ≤ 0 → Acts xs ys tables (run (readable count p s from)) Went
   left-done h = left-nothing (readable-none p left s here h)
 
-  pub left-bad : p s here ≡ bad → Acts xs ys active (run (readable count p s from)) Went
+  pub left-bad : p s here ≡ bad → Acts xs ys tables (run (readable count p s from)) Went
   left-bad e = left-nothing (readable-bad p left s here e)
 
   module _ {a : A} {next : ℕ} (some : 0 < left) (e : p s here ≡ got a next) where
-    then-rest : Onward xs ys active (run (readable count p s from)) (λ m. andThen m (step a m) (run (readable (left - 1) p s next)))
+    then-rest : Onward xs ys tables (run (readable count p s from)) (λ m. andThen m (step a m) (run (readable (left - 1) p s next)))
     then-rest = rw (readable-more p left s here a next some e, series .more a (readable (left - 1) p s next)) at (l .onward)
 
-    pub left-more : {zs : List ℕ} → Makes (step a) → Acts ys zs active (step a) Went → Left p run s xs zs active count from (left - 1) next
+    pub left-more : {zs : List ℕ} → Makes (step a) → Acts ys zs tables (step a) Went → Left p run s xs zs tables count from (left - 1) next
     left-more makes acts = record { onward = onward-more (run (readable (left - 1) p s next)) then-rest makes acts }
 
-    pub left-ends : {zs : List ℕ} {r : Step} → Ends r → Acts ys zs active (step a) r
-        → Acts xs zs active (run (readable count p s from)) r
+    pub left-ends : {zs : List ℕ} {r : Step} → Ends r → Acts ys zs tables (step a) r
+        → Acts xs zs tables (run (readable count p s from)) r
     left-ends end acts = onward-ends (run (readable (left - 1) p s next)) then-rest end acts
 
 -- ---- What they make

@@ -1,18 +1,21 @@
--- Frames compose and widen, and what stands outside a frame stays: a word, a slot. A store of a word changes its four bytes alone,
--- and the six stores of a slot its twenty-four, since each store leaves the words before it as they were.
-use mathlib.Core.Path.{_≡_, refl, _∙_}
+-- Frames compose and widen. Bytes that are alike, here or at another place, are the same word and the same slot; so what stands outside a
+-- frame stays. A store of a word changes its four bytes alone, and the six stores of a slot its twenty-four, since each store leaves the
+-- words before it as they were.
+use mathlib.Core.Path.{_≡_, refl, ap, _∙_}
 use mathlib.Core.List.{List}
-use Prim.Native.Nat.{ℕ, _+_, _/_, _%_, _≤_, _<_}
+use Prim.Native.Nat.{ℕ, suc, _+_, _*_, _/_, _%_, _≤_, _<_}
+use native.Mathlib.Nat.{add-zero, add-assoc}
 use native.Mathlib.Omega.{arith}
-use borrow.Author.Tests.{ltb-true, ltb-false}
-use lib.Dec.{ltb}
-use lib.ListN.{length}
+use borrow.Author.Tests.{eqb-true, eqb-false, ltb-true, ltb-false}
+use lib.Dec.{eqb, ltb}
+use lib.ListN.{length, getD}
 use lib.Seq.{sets, length-sets, ext-getD}
+use Rattle.meaning.specs.Base.{if_then_else_}
 use Rattle.meaning.specs.ByteLayouts.{bytes4}
 use Rattle.words.specs.Words.{Bytes, word32At}
 use Rattle.words.proofs.Laws.{split, word32-lt, read-written32, written32-below, written32-above}
 use Rattle.slots.specs.declared.Slot.{Slot}
-use Rattle.slots.specs.Slots.{slotAt, Frame, Stored, blank}
+use Rattle.slots.specs.Slots.{slotAt, Frame, Stored, Alike, blank, withValue}
 
 -- ---- Frames
 
@@ -44,53 +47,47 @@ frame-apart {lo₁} {hi₁} {lo₂} {hi₂} {xs} {ys} f g h =
     (λ e. g .below k (ltb-true k lo₂ e))
     (λ e. f .above k (omega (arith, ltb-false k lo₂ e))))
 
+-- ---- Bytes that are alike, here or at another place
+
+alike-part : {xs ys : List ℕ} {a b n : ℕ} → Alike xs ys a b n → (d m : ℕ) → d + m ≤ n → Alike xs ys (a + d) (b + d) m
+alike-part {xs} {ys} {a} {b} l d m h = record { same = λ j p. rw (add-assoc a d j, add-assoc b d j) (l .same (d + j) (omega arith)) }
+
+pub alike-rest : {xs ys : List ℕ} (a b n : ℕ) → Alike xs ys a b (24 * suc n) → Alike xs ys (a + 24) (b + 24) (24 * n)
+alike-rest a b n l = alike-part l 24 (24 * n) (omega arith)
+
+word-alike : {xs ys : List ℕ} {a b n : ℕ} → Alike xs ys a b n → 4 ≤ n → word32At ys b ≡ word32At xs a
+unfolding word32At
+word-alike {xs} {ys} {a} {b} l h =
+    let first : getD ys b 0 ≡ getD xs a 0 = rw (add-zero a, add-zero b) at (l .same 0 (omega arith)) in
+    rw (first, l .same 1 (omega arith), l .same 2 (omega arith), l .same 3 (omega arith))
+
+pub slot-alike : {xs ys : List ℕ} {a b n : ℕ} → Alike xs ys a b n → 24 ≤ n → slotAt ys b ≡ slotAt xs a
+unfolding slotAt
+slot-alike l h =
+    rw (
+      word-alike l (omega arith),
+      word-alike (alike-part l 4 4 (omega arith)) (omega arith),
+      word-alike (alike-part l 8 4 (omega arith)) (omega arith),
+      word-alike (alike-part l 12 4 (omega arith)) (omega arith),
+      word-alike (alike-part l 16 4 (omega arith)) (omega arith),
+      word-alike (alike-part l 20 4 (omega arith)) (omega arith),
+    )
+
 -- ---- What stands outside a frame
 
 module _ {lo hi : ℕ} {xs ys : List ℕ} (f : Frame lo hi xs ys) (at : ℕ) where
-  pub word-kept-below : at + 4 ≤ lo → word32At ys at ≡ word32At xs at
-  unfolding word32At
-  word-kept-below h =
-      rw (
-        f .below at (omega arith),
-        f .below (at + 1) (omega arith),
-        f .below (at + 2) (omega arith),
-        f .below (at + 3) (omega arith),
-      )
+  pub kept-below : (n : ℕ) → at + n ≤ lo → Alike xs ys at at n
+  kept-below n h = record { same = λ j p. f .below (at + j) (omega arith) }
 
-  pub word-kept-above : hi ≤ at → word32At ys at ≡ word32At xs at
-  unfolding word32At
-  word-kept-above h =
-      rw (
-        f .above at (omega arith),
-        f .above (at + 1) (omega arith),
-        f .above (at + 2) (omega arith),
-        f .above (at + 3) (omega arith),
-      )
+  pub kept-above : (n : ℕ) → hi ≤ at → Alike xs ys at at n
+  kept-above n h = record { same = λ j p. f .above (at + j) (omega arith) }
 
 module _ {lo hi : ℕ} {xs ys : List ℕ} (f : Frame lo hi xs ys) (at : ℕ) where
-  pub slot-kept-below : at + 24 ≤ lo → slotAt ys at ≡ slotAt xs at
-  unfolding slotAt
-  slot-kept-below h =
-      rw (
-        word-kept-below f at (omega arith),
-        word-kept-below f (at + 4) (omega arith),
-        word-kept-below f (at + 8) (omega arith),
-        word-kept-below f (at + 12) (omega arith),
-        word-kept-below f (at + 16) (omega arith),
-        word-kept-below f (at + 20) (omega arith),
-      )
+  pub word-kept-below : at + 4 ≤ lo → word32At ys at ≡ word32At xs at
+  word-kept-below h = word-alike (kept-below f at 4 h) (omega arith)
 
-  pub slot-kept-above : hi ≤ at → slotAt ys at ≡ slotAt xs at
-  unfolding slotAt
-  slot-kept-above h =
-      rw (
-        word-kept-above f at (omega arith),
-        word-kept-above f (at + 4) (omega arith),
-        word-kept-above f (at + 8) (omega arith),
-        word-kept-above f (at + 12) (omega arith),
-        word-kept-above f (at + 16) (omega arith),
-        word-kept-above f (at + 20) (omega arith),
-      )
+  pub word-kept-above : hi ≤ at → word32At ys at ≡ word32At xs at
+  word-kept-above h = word-alike (kept-above f at 4 h) (omega arith)
 
 -- ---- A slot's fields fit their types
 
@@ -151,6 +148,35 @@ word-put {xs} {ys} at v small fits e =
       same = read-written32 xs at v small fits;
     })
 
+-- the word of one of a slot's values
+module _ {xs ys : List ℕ} (at column v : ℕ) (p : PutWord xs ys (at + 8 + 4 * column) v) where
+  value-put : (k here : ℕ) → here ≡ at + 8 + 4 * k → word32At ys here ≡ (if eqb column k then v else word32At xs here)
+  value-put k here q =
+      split (eqb column k)
+      (λ e. rw (e, q, ← eqb-true column k e) (p .same))
+      (λ e.
+      let apart : column ≡ k → ⊥ = eqb-false column k e in
+      rw e
+      (split (ltb column k)
+      (λ l. word-kept-above (p .frame) here (omega (arith, ltb-true column k l)))
+      (λ l. word-kept-below (p .frame) here (omega (arith, ltb-false column k l)))))
+
+  pub slot-valued : column < 4 → Stored xs ys at (withValue (slotAt xs at) column v)
+  unfolding slotAt withValue
+  slot-valued h =
+      record {
+        frame = frame-wider (p .frame) (omega arith) (omega arith);
+        same =
+            rw (
+              word-kept-below (p .frame) at (omega arith),
+              word-kept-below (p .frame) (at + 4) (omega arith),
+              value-put 0 (at + 8) (omega arith),
+              value-put 1 (at + 12) (omega arith),
+              value-put 2 (at + 16) (omega arith),
+              value-put 3 (at + 20) (omega arith),
+            );
+      }
+
 -- the six words of a slot, one after another
 module _ (at w : ℕ) (e : Slot) where
   words-put : {x0 x1 x2 x3 x4 x5 x6 : List ℕ} → PutWord x0 x1 at (e .handle) → PutWord x1 x2 (at + 4) w → PutWord x2 x3 (at + 8) (e .v0)
@@ -196,3 +222,19 @@ module _ (at w : ℕ) (e : Slot) where
       let l5 = p5 .frame .len in
       let p6 = word-put (at + 20) (e .v3) (f .v3) (omega arith) e6 in
       words-put p1 p2 p3 p4 p5 p6 hk hm ht
+
+-- the six words of a slot, read at a place and stored at another
+pub slot-copied : {x0 x1 x2 x3 x4 x5 x6 : List ℕ} {w0 w1 w2 w3 w4 w5 : ℕ} (from to : ℕ) → Bytes x0 → to + 24 ≤ length x0
+    → w0 ≡ word32At x0 from → w1 ≡ word32At x0 (from + 4) → w2 ≡ word32At x0 (from + 8)
+    → w3 ≡ word32At x0 (from + 12) → w4 ≡ word32At x0 (from + 16) → w5 ≡ word32At x0 (from + 20)
+    → x1 ≡ sets x0 to (bytes4 w0) → x2 ≡ sets x1 (to + 4) (bytes4 w1) → x3 ≡ sets x2 (to + 8) (bytes4 w2)
+    → x4 ≡ sets x3 (to + 12) (bytes4 w3) → x5 ≡ sets x4 (to + 16) (bytes4 w4) → x6 ≡ sets x5 (to + 20) (bytes4 w5)
+    → Stored x0 x6 to (slotAt x0 from)
+unfolding slotAt
+slot-copied {x0} {x1} {x2} {x3} {x4} {x5} {x6} from to b fits q0 q1 q2 q3 q4 q5 e0 e1 e2 e3 e4 e5 =
+    slot-put to (word32At x0 (from + 4)) (slotAt x0 from) (slot-fits x0 b from) (word32-lt x0 b (from + 4)) fits
+    (same x0 to q0 e0) (same x1 (to + 4) q1 e1) (same x2 (to + 8) q2 e2)
+    (same x3 (to + 12) q3 e3) (same x4 (to + 16) q4 e4) (same x5 (to + 20) q5 e5) refl refl refl
+  where
+    same : {y : List ℕ} {v w : ℕ} (x : List ℕ) (at : ℕ) → v ≡ w → y ≡ sets x at (bytes4 v) → y ≡ sets x at (bytes4 w)
+    same x at q e = e ∙ ap (λ (u : ℕ). sets x at (bytes4 u)) q

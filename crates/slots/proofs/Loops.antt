@@ -1,19 +1,18 @@
--- The loops of the tables, of the slots alone: the search by halving, the shift up before an insertion, the shift down that removes, and
--- the clearing of bytes. Each has an invariant with a lemma for its start, its turn and its end.
+-- The loops of the tables, of lists alone: the search by halving, the bytes that move up or down by a slot, and the clearing of bytes. Each
+-- has an invariant with a lemma for its start, its turn and its end.
 use mathlib.Core.Path.{_≡_, refl, sym, ap, _∙_, subst}
-use mathlib.Core.List.{List, [], _∷_, _++_, append-nil}
-use Prim.Native.Nat.{ℕ, zero, suc, _+_, _-_, _*_, _≤_, _<_}
+use mathlib.Core.List.{List, [], _∷_, _++_}
+use Prim.Native.Nat.{ℕ, zero, suc, _+_, _-_, _≤_, _<_}
 use native.Mathlib.Numerals.{add-one}
 use native.Mathlib.Omega.{arith}
-use lib.ListN.{length, getD, take, drop, set, replicate, length-set}
-use lib.Seq.{drop-cons, take-all}
-use Rattle.words.specs.Words.{word32At}
+use borrow.Author.Tests.{ltb-true, ltb-false}
+use lib.Dec.{ltb}
+use lib.ListN.{length, getD, drop, set, replicate, length-set}
+use lib.Seq.{getD-set-same, getD-set-other}
+use Rattle.words.proofs.Laws.{split}
 use Rattle.slots.specs.declared.Slot.{Slot}
-use Rattle.slots.specs.Slots.{slotAt, slotsFrom, tableAt, tableBytes, Frame, Stands, Holds, Stored}
-use Rattle.slots.specs.Slots.{blank, insertAt, removeAt, placeIn, Sorted}
-use Rattle.slots.proofs.Frames.{frame-refl, frame-trans, frame-wider, frame-join, PutWord}
-use Rattle.slots.proofs.Lists.{set-last, front-get, removed-get, removed-length, removed-front, copy-step, back-get, take-front}
-use Rattle.slots.proofs.Tables.{slots-length, slots-get, slots-take, slots-put, holds-after, resized}
+use Rattle.slots.specs.Slots.{Frame, MovedUp, MovedDown, blank, placeIn, Sorted}
+use Rattle.slots.proofs.Frames.{frame-refl, frame-wider, frame-join}
 use Rattle.slots.proofs.Order.{place-is, sorted-le}
 
 -- ---- The search: every slot before lo is below the handle, and every slot from hi on is not
@@ -60,144 +59,86 @@ module _ {l : List Slot} (n h lo hi : ℕ) (k : Seek l n h lo hi) where
   seek-done e =
       sym (place-is h l lo (omega (arith, k .order, k .high, k .size)) (k .under) (λ p. k .over lo e (omega (arith, k .size))))
 
--- ---- The shift up: the slots from j on stand one place higher
+-- ---- One byte
 
-pub record Up (x0 x : List ℕ) (at n i j : ℕ) : Type 0 where
-  pub low : i ≤ j
-  pub high : j ≤ n
-  pub frame : Frame at (at + 24 * n + 24) x0 x
-  pub list : slotsFrom x at (suc n) ≡ take (suc j) (slotsFrom x0 at (suc n)) ++ drop j (slotsFrom x0 at n)
-
-drop-end : (x : List ℕ) (at n : ℕ) → drop n (slotsFrom x at n) ≡ []
-unfolding slotsFrom
-drop-end x at zero = refl
-drop-end x at (suc n) = drop-end x (at + 24) n
-
-pub up-start : (x : List ℕ) (at n i : ℕ) → i ≤ n → Up x x at n i n
-up-start x at n i h =
+byte-frame : (x : List ℕ) (k v : ℕ) → Frame k (k + 1) x (set x k v)
+byte-frame x k v =
     record {
-      low = h;
-      high = omega arith;
-      frame = frame-refl;
-      list =
-          sym
-          (rw (
-            take-all (suc n) (slotsFrom x at (suc n)) (omega (arith, slots-length x at (suc n))),
-            drop-end x at n,
-            append-nil,
-          ));
+      len = length-set x k v;
+      below = λ a h. getD-set-other x k a v 0 (λ q. omega arith);
+      above = λ a h. getD-set-other x k a v 0 (λ q. omega arith);
     }
 
-up-suc : {x0 x y : List ℕ} {e : Slot} (at n i k : ℕ) → Up x0 x at n i (suc k) → i ≤ k → e ≡ slotAt x (at + 24 * k)
-    → Stored x y (at + 24 * suc k) e → Up x0 y at n i k
-up-suc {x0} {x} {y} {e} at n i k u h r p =
-    let b : k < n = omega (arith, u .high) in
-    let len : length (slotsFrom x0 at (suc n)) ≡ suc n = slots-length x0 at (suc n) in
-    let len′ : length (slotsFrom x0 at n) ≡ n = slots-length x0 at n in
-    let read : e ≡ getD (slotsFrom x0 at n) k blank =
-    r ∙ sym (slots-get x at (suc n) k (omega arith)) ∙ ap (λ (l : List Slot). getD l k blank) (u .list)
-    ∙ front-get (slotsFrom x0 at (suc n)) _ (suc (suc k)) k blank (omega arith) (omega arith)
-    ∙ slots-get x0 at (suc n) k (omega arith) ∙ sym (slots-get x0 at n k b) in
+-- ---- The bytes moved up: those from `left` on stand a slot higher
+
+pub record Raised (x0 x : List ℕ) (at n left : ℕ) : Type 0 where
+  pub high : left ≤ n
+  pub frame : Frame (at + 24 + left) (at + 24 + n) x0 x
+  pub moved : (j : ℕ) → left ≤ j → j < n → getD x (at + 24 + j) 0 ≡ getD x0 (at + j) 0
+
+pub raise-start : (x : List ℕ) (at n : ℕ) → Raised x x at n n
+raise-start x at n = record { high = omega arith; frame = frame-refl; moved = λ j h b. absurd (omega arith) }
+
+module _ {x0 x : List ℕ} (at n left : ℕ) (r : Raised x0 x at n left) where
+  pub raise-step : 0 < left → at + n + 24 ≤ length x0
+      → Raised x0 (set x (at + 24 + (left - 1)) (getD x (at + (left - 1)) 0)) at n (left - 1)
+  raise-step h fits =
+      let k : ℕ = left - 1 in
+      let v : ℕ = getD x (at + k) 0 in
+      let one = byte-frame x (at + 24 + k) v in
+      let high : left ≤ n = r .high in
+      let len : length x ≡ length x0 = r .frame .len in
+      record {
+        high = omega arith;
+        frame = frame-join (r .frame) one (omega arith) (omega arith) (omega arith) (omega arith);
+        moved =
+            λ j p b.
+            split (ltb j left)
+            (λ e.
+            let q : k ≡ j = omega (arith, ltb-true j left e) in
+            subst (λ (m : ℕ). getD (set x (at + 24 + k) v) (at + 24 + m) 0 ≡ getD x0 (at + m) 0) q
+            (getD-set-same x (at + 24 + k) v 0 (omega arith) ∙ r .frame .below (at + k) (omega arith)))
+            (λ e.
+            let c : left ≤ j = ltb-false j left e in
+            one .above (at + 24 + j) (omega arith) ∙ r .moved j c b);
+      }
+
+  pub raise-done : left ≤ 0 → MovedUp x0 x at n
+  raise-done h =
+      record { frame = frame-wider (r .frame) (omega arith) (omega arith); moved = record { same = λ j p. r .moved j (omega arith) p } }
+
+-- ---- The bytes moved down: one more
+
+pub lower-start : (x : List ℕ) (at : ℕ) → MovedDown x x at 0
+lower-start x at = record { frame = frame-refl; moved = record { same = λ j p. absurd (omega arith) } }
+
+pub lower-step : {x0 x : List ℕ} (at j : ℕ) → MovedDown x0 x at j → at + j < length x0
+    → MovedDown x0 (set x (at + j) (getD x (at + 24 + j) 0)) at (j + 1)
+lower-step {x0} {x} at j d fits =
+    let v : ℕ = getD x (at + 24 + j) 0 in
+    let one = byte-frame x (at + j) v in
+    let len : length x ≡ length x0 = d .frame .len in
     record {
-      low = h;
-      high = omega arith;
-      frame = frame-trans (u .frame) (frame-wider (p .frame) (omega arith) (omega arith));
-      list =
-          slots-put at (suc n) (suc k) p (omega arith)
-          ∙ rw (
-            u .list,
-            set-last (slotsFrom x0 at (suc n)) (drop (suc k) (slotsFrom x0 at n)) (suc k) e (omega arith),
-            drop-cons (slotsFrom x0 at n) k blank (omega arith),
-            read,
-          );
+      frame = frame-join (d .frame) one (omega arith) (omega arith) (omega arith) (omega arith);
+      moved =
+          record {
+            same =
+                λ k p.
+                split (ltb k j)
+                (λ e.
+                let c : k < j = ltb-true k j e in
+                one .below (at + k) (omega arith) ∙ d .moved .same k c)
+                (λ e.
+                let q : j ≡ k = omega (arith, ltb-false k j e) in
+                subst (λ (m : ℕ). getD (set x (at + j) v) (at + m) 0 ≡ getD x0 (at + 24 + m) 0) q
+                (getD-set-same x (at + j) v 0 (omega arith) ∙ d .frame .above (at + 24 + j) (omega arith)));
+          };
     }
 
-pub up-step : {x0 x y : List ℕ} {e : Slot} (at n i j : ℕ) → Up x0 x at n i j → i < j → e ≡ slotAt x (at + 24 * (j - 1))
-    → Stored x y (at + 24 * j) e → Up x0 y at n i (j - 1)
-up-step {x0} {x} {y} {e} at n i j u h r p =
-    let q : j ≡ suc (j - 1) = omega arith in
-    up-suc at n i (j - 1) (subst (λ (m : ℕ). Up x0 x at n i m) q u) (omega arith) r (subst (λ (m : ℕ). Stored x y (at + 24 * m) e) q p)
-
--- the slot in the place that is free, and a size one higher
-pub up-done : {x0 x y z : List ℕ} {e : Slot} (base most n i j : ℕ) → Stands base most x0 → n ≡ word32At x0 base → n < most
-    → Up x0 x (base + 4) n i j → j ≤ i → Stored x y (base + 4 + 24 * i) e → PutWord y z base (n + 1)
-    → Holds base most x0 z (insertAt i e (tableAt x0 base))
-unfolding insertAt tableAt tableBytes
-up-done {x0} {x} {y} {z} {e} base most n i j s same room u h p w =
-    let at : ℕ = base + 4 in
-    let q : j ≡ i = omega (arith, u .low) in
-    let u′ : Up x0 x at n i i = subst (λ (m : ℕ). Up x0 x at n i m) q u in
-    let len : length (slotsFrom x0 at (suc n)) ≡ suc n = slots-length x0 at (suc n) in
-    let b : i ≤ n = u′ .high in
-    let f : Frame base (base + tableBytes most) x0 y =
-    frame-join (u .frame) (p .frame) (omega arith) (omega arith) (omega arith) (omega arith) in
-    holds-after base most f
-    (resized base most (n + 1) w (omega arith) (rw (f .len) (s .fits))
-    (ap (slotsFrom y at) (add-one n) ∙ slots-put at (suc n) i p (omega arith)
-    ∙ rw (
-      ← same,
-      u′ .list,
-      set-last (slotsFrom x0 at (suc n)) (drop i (slotsFrom x0 at n)) i e (omega arith),
-      slots-take x0 at i (suc n) (omega arith),
-      slots-take x0 at i n b,
-    )))
-
--- ---- The shift down: the slots before j are those of the list without its slot i
-
-pub record Down (x0 x : List ℕ) (at n i j : ℕ) : Type 0 where
-  pub low : i ≤ j
-  pub high : j < n
-  pub frame : Frame at (at + 24 * n) x0 x
-  pub list : slotsFrom x at n ≡ take j (removeAt i (slotsFrom x0 at n)) ++ drop j (slotsFrom x0 at n)
-
-pub down-start : (x : List ℕ) (at n i : ℕ) → i < n → Down x x at n i i
-unfolding removeAt
-down-start x at n i h =
-    record { low = omega arith; high = h; frame = frame-refl; list = sym (removed-front (slotsFrom x at n) i) }
-
-pub down-step : {x0 x y : List ℕ} {e : Slot} (at n i j : ℕ) → Down x0 x at n i j → j + 1 < n → e ≡ slotAt x (at + 24 * (j + 1))
-    → Stored x y (at + 24 * j) e → Down x0 y at n i (j + 1)
-unfolding removeAt
-down-step {x0} {x} {y} {e} at n i j d h r p =
-    let l0 : List Slot = slotsFrom x0 at n in
-    let len : length (slotsFrom x0 at n) ≡ n = slots-length x0 at n in
-    let a : i ≤ j = d .low in
-    let lenr : suc (length (take i l0 ++ drop (suc i) l0)) ≡ length l0 = removed-length l0 i (omega arith) in
-    let read : e ≡ getD (take i l0 ++ drop (suc i) l0) j blank =
-    r ∙ sym (slots-get x at n (j + 1) h) ∙ ap (λ (l : List Slot). getD l (j + 1) blank) (d .list)
-    ∙ back-get (take i l0 ++ drop (suc i) l0) l0 j (j + 1) blank (omega arith) (omega arith) (omega arith)
-    ∙ ap (λ (m : ℕ). getD l0 m blank) (add-one j) ∙ sym (removed-get l0 i j blank a) in
-    record {
-      low = omega arith;
-      high = h;
-      frame = frame-trans (d .frame) (frame-wider (p .frame) (omega arith) (omega arith));
-      list =
-          slots-put at n j p (omega arith)
-          ∙ ap (λ (l : List Slot). set l j e) (d .list)
-          ∙ ap (λ (s : Slot). set (take j (take i l0 ++ drop (suc i) l0) ++ drop j l0) j s) read
-          ∙ copy-step (take i l0 ++ drop (suc i) l0) l0 j blank (omega arith) (omega arith)
-          ∙ ap (λ (m : ℕ). take m (take i l0 ++ drop (suc i) l0) ++ drop m l0) (sym (add-one j));
-    }
-
--- a size one lower
-pub down-done : {x0 x y : List ℕ} (base most n i j : ℕ) → Stands base most x0 → n ≡ word32At x0 base → Down x0 x (base + 4) n i j
-    → n ≤ j + 1 → PutWord x y base (n - 1) → Holds base most x0 y (removeAt i (tableAt x0 base))
-unfolding removeAt tableAt tableBytes
-down-done {x0} {x} {y} base most n i j s same d h w =
-    let at : ℕ = base + 4 in
-    let l0 : List Slot = slotsFrom x0 at n in
-    let len : length (slotsFrom x0 at n) ≡ n = slots-length x0 at n in
-    let small : word32At x0 base ≤ most = s .size in
-    let a : i ≤ j = d .low in
-    let b : j < n = d .high in
-    let lenr : suc (length (take i l0 ++ drop (suc i) l0)) ≡ length l0 = removed-length l0 i (omega arith) in
-    let q : n - 1 ≡ j = omega arith in
-    let f : Frame base (base + tableBytes most) x0 x = frame-wider (d .frame) (omega arith) (omega arith) in
-    holds-after base most f
-    (resized base most (n - 1) w (omega arith) (rw (f .len) (s .fits))
-    (ap (slotsFrom x at) q ∙ sym (slots-take x at j n (omega arith)) ∙ ap (take j) (d .list)
-    ∙ take-front (take i l0 ++ drop (suc i) l0) (drop j l0) j (omega arith)
-    ∙ rw same))
+pub lower-done : {x0 x : List ℕ} (at n j : ℕ) → (j ≤ n) × MovedDown x0 x at j → n ≤ j → MovedDown x0 x at n
+lower-done {x0} {x} at n j d h =
+    let q : j ≡ n = omega (arith, d .0) in
+    subst (λ (m : ℕ). MovedDown x0 x at m) q (d .1)
 
 -- ---- The clearing: the first i bytes are zero, and the others as they were
 

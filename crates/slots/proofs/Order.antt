@@ -1,10 +1,10 @@
 -- Tables by rising handle: where a handle is, and that an insertion at its place, a removal, a store of the same handle and a push of a
 -- higher one keep the order. Of lists alone; what stands before a place is below the handle, and what stands from it on is not.
-use mathlib.Core.Path.{_≡_, refl, sym, ap, subst}
+use mathlib.Core.Path.{_≡_, refl, sym, ap, _∙_, subst}
 use mathlib.Core.Bool.{Bool, true, false}
 use mathlib.Core.List.{List, [], _∷_, _++_}
 use mathlib.Core.Logic.{⊎-elim}
-use Prim.Native.Nat.{ℕ, zero, suc, _≤_, _<_}
+use Prim.Native.Nat.{ℕ, zero, suc, _-_, _≤_, _<_}
 use native.Mathlib.Nat.{eq-or-lt-of-le}
 use native.Mathlib.Omega.{arith}
 use borrow.Author.Tests.{lt-ltb, le-ltb, ltb-true, ltb-false, eq-eqb, ne-eqb, eqb-true}
@@ -14,8 +14,7 @@ use Rattle.meaning.specs.Base.{if_then_else_}
 use Rattle.words.proofs.Laws.{split}
 use Rattle.slots.specs.declared.Slot.{Slot}
 use Rattle.slots.specs.declared.Found.the-variants.{At, Nothing}
-use Rattle.slots.specs.Slots.{insertAt, removeAt, blank, placeIn, findIn, Sorted}
-use Rattle.slots.proofs.Lists.{removed-length}
+use Rattle.slots.specs.Slots.{insertAt, removeAt, blank, placeIn, hit, findIn, Sorted}
 
 -- no slot of l has the handle h
 pub record Absent (h : ℕ) (l : List Slot) : Type 0 where
@@ -71,6 +70,24 @@ sorted-le {l} s i j h b =
     (λ (q : i ≡ j). subst (λ (m : ℕ). getD l i blank .handle ≤ getD l m blank .handle) q (omega arith))
     (λ (q : i < j). omega (arith, s .rises i j q b))
     (eq-or-lt-of-le h)
+
+-- a handle is at its place, and one above the last at the end
+pub place-there : (h : ℕ) (l : List Slot) (i : ℕ) → Sorted l → i < length l → getD l i blank .handle ≡ h → placeIn h l ≡ i
+place-there h l i s b q = place-is h l i (omega arith) (λ k p. omega (arith, s .rises k i p b)) (λ p. omega arith)
+
+pub place-end : (h : ℕ) (l : List Slot) (n : ℕ) → Sorted l → length l ≡ n → (0 < n → getD l (n - 1) blank .handle < h) → placeIn h l ≡ n
+place-end h l n s q last =
+    place-is h l n (omega arith)
+    (λ k p. omega (arith, sorted-le s k (n - 1) (omega arith) (omega arith), last (omega arith))) (λ p. absurd (omega arith))
+
+pub hit-at : (h i : ℕ) (l : List Slot) {t : Bool} → t ≡ hit h i l → t ≡ true → (i < length l) × (getD l i blank .handle ≡ h)
+unfolding hit
+hit-at h i l e f = by (ltb i (length l)) refl (sym e ∙ f)
+  where
+    by : (t : Bool) → ltb i (length l) ≡ t → (if t then eqb (getD l i blank .handle) h else false) ≡ true
+        → (i < length l) × (getD l i blank .handle ≡ h)
+    by true a g = (ltb-true i (length l) a, eqb-true (getD l i blank .handle) h g)
+    by false a g = absurd (let z : _≡_ {A = ℕ} 0 1 = cc in omega arith)
 
 -- ---- Where the slot of a handle is
 
@@ -131,7 +148,7 @@ find-nothing h l s f =
 -- and the other way
 pub find-there : (h : ℕ) (l : List Slot) (i : ℕ) → Sorted l → i < length l → getD l i blank .handle ≡ h → findIn h l ≡ At i
 find-there h l i s b q =
-    sym (find-yes l h i (sym (place-is h l i (omega arith) (λ k p. omega (arith, s .rises k i p b)) (λ p. omega arith))) b q)
+    sym (find-yes l h i (sym (place-there h l i s b q)) b q)
 
 pub find-absent : (h : ℕ) (l : List Slot) → Absent h l → findIn h l ≡ Nothing
 find-absent h l a =
@@ -149,7 +166,9 @@ insert-length (suc i) e (x ∷ l) = ap suc (insert-length i e l)
 
 pub remove-length : (i : ℕ) (l : List Slot) → i < length l → suc (length (removeAt i l)) ≡ length l
 unfolding removeAt
-remove-length i l h = removed-length l i h
+remove-length i [] h = absurd (omega arith)
+remove-length zero (x ∷ l) h = refl
+remove-length (suc i) (x ∷ l) h = ap suc (remove-length i l (omega arith))
 
 -- ---- Keeping the order
 

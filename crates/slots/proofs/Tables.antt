@@ -1,16 +1,17 @@
 -- The slots from a place on and the table at a base: their lengths, their slots, and that they stay where a change is outside them.
--- A stored slot takes its place in the list, and a stored size makes the table the slots that it counts.
+-- A stored slot takes its place in the list, a stored size makes the table the slots that it counts, and slots whose bytes move up or
+-- down are the list's, a place later or earlier.
 use mathlib.Core.Path.{_≡_, refl, sym, ap, _∙_}
 use mathlib.Core.List.{List, [], _∷_, _++_}
-use Prim.Native.Nat.{ℕ, zero, suc, _+_, _*_, _≤_, _<_}
+use Prim.Native.Nat.{ℕ, zero, suc, _+_, _-_, _*_, _≤_, _<_}
 use native.Mathlib.Omega.{arith}
-use lib.ListN.{length, getD, take, set}
-use lib.Seq.{take-suc}
+use lib.ListN.{length, getD, take, drop, set, take-append-drop, List·getD-eq-default}
 use Rattle.words.specs.Words.{Bytes, word32At}
 use Rattle.slots.specs.declared.Slot.{Slot}
-use Rattle.slots.specs.Slots.{slotAt, slotsFrom, tableAt, tableBytes, Frame, Stands, Holds, Stored, blank}
-use Rattle.slots.proofs.Frames.{frame-wider, frame-join, word-kept-below, word-kept-above, slot-kept-below, slot-kept-above}
-use Rattle.slots.proofs.Frames.{Fits, slot-fits, blank-fits, PutWord}
+use Rattle.slots.specs.Slots.{slotAt, slotsFrom, tableAt, tableBytes, Frame, Stands, Holds, Stored}
+use Rattle.slots.specs.Slots.{Alike, MovedUp, MovedDown, blank, valueOf, insertAt, removeAt}
+use Rattle.slots.proofs.Frames.{frame-wider, frame-join, alike-rest, slot-alike, kept-below, kept-above}
+use Rattle.slots.proofs.Frames.{word-kept-below, word-kept-above, Fits, slot-fits, blank-fits, PutWord}
 
 -- ---- The slots from a place on
 
@@ -40,26 +41,39 @@ slots-take xs at zero n h = refl
 slots-take xs at (suc m) zero h = absurd (omega arith)
 slots-take xs at (suc m) (suc n) h = ap (λ (l : List Slot). slotAt xs at ∷ l) (slots-take xs (at + 24) m n (omega arith))
 
+slots-drop : (xs : List ℕ) (at i n : ℕ) → i ≤ n → drop i (slotsFrom xs at n) ≡ slotsFrom xs (at + 24 * i) (n - i)
+unfolding slotsFrom
+slots-drop xs at zero n h =
+    let z : at + 24 * 0 ≡ at = omega arith in
+    let q : n - 0 ≡ n = omega arith in
+    rw (z, q)
+slots-drop xs at (suc i) zero h = absurd (omega arith)
+slots-drop xs at (suc i) (suc n) h =
+    let q : suc n - suc i ≡ n - i = omega arith in
+    rw (q, ← next-slot at i) (slots-drop xs (at + 24) i n (omega arith))
+
+-- the first i slots, and those after them
+slots-cut : (xs : List ℕ) (at i n : ℕ) → i ≤ n → slotsFrom xs at n ≡ slotsFrom xs at i ++ slotsFrom xs (at + 24 * i) (n - i)
+slots-cut xs at i n h = sym (take-append-drop i (slotsFrom xs at n)) ∙ rw (slots-take xs at i n h, slots-drop xs at i n h)
+
 -- one slot more at the end
 pub slots-more : (xs : List ℕ) (at n : ℕ) → slotsFrom xs at (n + 1) ≡ slotsFrom xs at n ++ (slotAt xs (at + 24 * n) ∷ [])
+unfolding slotsFrom
 slots-more xs at n =
-    let len : length (slotsFrom xs at (n + 1)) ≡ n + 1 = slots-length xs at (n + 1) in
-    let one : n + 1 ≡ suc n = omega arith in
-    sym (slots-take xs at (n + 1) (n + 1) (omega arith))
-    ∙ ap (λ (k : ℕ). take k (slotsFrom xs at (n + 1))) one
-    ∙ take-suc (slotsFrom xs at (n + 1)) n blank (omega arith)
-    ∙ rw (slots-take xs at n (n + 1) (omega arith), slots-get xs at (n + 1) n (omega arith))
+    let one : n + 1 - n ≡ suc zero = omega arith in
+    rw one at (slots-cut xs at n (n + 1) (omega arith))
 
-module _ {lo hi : ℕ} {xs ys : List ℕ} (f : Frame lo hi xs ys) where
-  pub slots-kept-below : (at n : ℕ) → at + 24 * n ≤ lo → slotsFrom ys at n ≡ slotsFrom xs at n
-  unfolding slotsFrom
-  slots-kept-below at zero h = refl
-  slots-kept-below at (suc n) h = rw (slot-kept-below f at (omega arith), slots-kept-below (at + 24) n (omega arith))
+pub slots-alike : {xs ys : List ℕ} (a b n : ℕ) → Alike xs ys a b (24 * n) → slotsFrom ys b n ≡ slotsFrom xs a n
+unfolding slotsFrom
+slots-alike a b zero l = refl
+slots-alike a b (suc n) l = rw (slot-alike l (omega arith), slots-alike (a + 24) (b + 24) n (alike-rest a b n l))
 
-  pub slots-kept-above : (at n : ℕ) → hi ≤ at → slotsFrom ys at n ≡ slotsFrom xs at n
-  unfolding slotsFrom
-  slots-kept-above at zero h = refl
-  slots-kept-above at (suc n) h = rw (slot-kept-above f at (omega arith), slots-kept-above (at + 24) n (omega arith))
+module _ {lo hi : ℕ} {xs ys : List ℕ} (f : Frame lo hi xs ys) (at n : ℕ) where
+  pub slots-kept-below : at + 24 * n ≤ lo → slotsFrom ys at n ≡ slotsFrom xs at n
+  slots-kept-below h = slots-alike at at n (kept-below f at (24 * n) h)
+
+  pub slots-kept-above : hi ≤ at → slotsFrom ys at n ≡ slotsFrom xs at n
+  slots-kept-above h = slots-alike at at n (kept-above f at (24 * n) h)
 
 pub slots-put : {xs ys : List ℕ} {e : Slot} (at n i : ℕ) → Stored xs ys (at + 24 * i) e → i < n
     → slotsFrom ys at n ≡ set (slotsFrom xs at n) i e
@@ -71,7 +85,7 @@ slots-put {xs} {ys} {e} at (suc n) zero p h =
     rw (q .same, slots-kept-above (q .frame) (at + 24) n (omega arith))
 slots-put {xs} {ys} {e} at (suc n) (suc i) p h =
     let q : Stored xs ys (at + 24 + 24 * i) e = rw (next-slot at i) p in
-    rw (slot-kept-below (p .frame) at (omega arith), slots-put (at + 24) n i q (omega arith))
+    rw (slot-alike (kept-below (p .frame) at 24 (omega arith)) (omega arith), slots-put (at + 24) n i q (omega arith))
 
 -- ---- The table at a base
 
@@ -88,6 +102,23 @@ pub table-handle : (xs : List ℕ) (base i : ℕ) → i < word32At xs base
     → getD (tableAt xs base) i blank .handle ≡ word32At xs (base + 4 + 24 * i)
 unfolding slotAt
 table-handle xs base i h = ap (λ (e : Slot). e .handle) (table-get xs base i h)
+
+-- a slot's values stand in its last four words
+slot-value : (xs : List ℕ) (at column : ℕ) → column < 4 → word32At xs (at + 8 + 4 * column) ≡ valueOf (slotAt xs at) column
+unfolding slotAt valueOf
+slot-value xs at zero h = let q : at + 8 + 4 * 0 ≡ at + 8 = omega arith in rw q
+slot-value xs at (suc zero) h = let q : at + 8 + 4 * suc zero ≡ at + 12 = omega arith in rw q
+slot-value xs at (suc (suc zero)) h = let q : at + 8 + 4 * suc (suc zero) ≡ at + 16 = omega arith in rw q
+slot-value xs at (suc (suc (suc zero))) h = let q : at + 8 + 4 * suc (suc (suc zero)) ≡ at + 20 = omega arith in rw q
+slot-value xs at (suc (suc (suc (suc column)))) h = absurd (omega arith)
+
+pub table-value : (xs : List ℕ) (base i column : ℕ) → i < word32At xs base → column < 4
+    → word32At xs (base + 4 + 24 * i + 8 + 4 * column) ≡ valueOf (getD (tableAt xs base) i blank) column
+table-value xs base i column h b = rw (table-get xs base i h) (slot-value xs (base + 4 + 24 * i) column b)
+
+pub no-value : (e : Slot) (column : ℕ) → 4 ≤ column → 0 ≡ valueOf e column
+unfolding valueOf
+no-value e column h = sym (List·getD-eq-default (e .v0 ∷ e .v1 ∷ e .v2 ∷ e .v3 ∷ []) 0 h)
 
 pub table-fits : (xs : List ℕ) → Bytes xs → (base i : ℕ) → Fits (getD (tableAt xs base) i blank)
 unfolding tableAt
@@ -164,3 +195,46 @@ pushed {xs} {ys} {zs} {e} base most n s q room p w =
     holds-after base most (frame-wider (p .frame) (omega arith) (omega arith))
     (resized base most (n + 1) w (omega arith) fits′
     (slots-more ys (base + 4) n ∙ rw (slots-kept-below (p .frame) (base + 4) n (omega arith), p .same, q)))
+
+-- the slots from a place on moved up, a slot stored in the place that is free, and a size one higher
+pub inserted : {xs ys zs ws : List ℕ} {e : Slot} (base most n i : ℕ) → Stands base most xs → n ≡ word32At xs base → n < most → i ≤ n
+    → MovedUp xs ys (base + 4 + 24 * i) (24 * (n - i)) → Stored ys zs (base + 4 + 24 * i) e → PutWord zs ws base (n + 1)
+    → Holds base most xs ws (insertAt i e (tableAt xs base))
+unfolding insertAt slotsFrom tableAt tableBytes
+inserted {xs} {ys} {zs} {ws} {e} base most n i s q room h u p w =
+    let at : ℕ = base + 4 in
+    let here : ℕ = base + 4 + 24 * i in
+    let f : Frame here (base + tableBytes most) xs zs =
+    frame-join (u .frame) (p .frame) (omega arith) (omega arith) (omega arith) (omega arith) in
+    let one : n + 1 - i ≡ suc (n - i) = omega arith in
+    let after : slotsFrom zs (here + 24) (n - i) ≡ slotsFrom xs here (n - i) =
+    slots-kept-above (p .frame) (here + 24) (n - i) (omega arith) ∙ slots-alike here (here + 24) (n - i) (u .moved) in
+    holds-after base most (frame-wider f (omega arith) (omega arith))
+    (resized base most (n + 1) w (omega arith) (rw (f .len) (s .fits))
+    (slots-cut zs at i (n + 1) (omega arith)
+    ∙ rw (one, slots-kept-below f at i (omega arith), p .same, after, ← q, slots-take xs at i n h, slots-drop xs at i n h)))
+
+-- the slots after a place moved down to it, and a size one lower
+pub removed : {xs ys zs : List ℕ} (base most n i : ℕ) → Stands base most xs → n ≡ word32At xs base → i < n
+    → MovedDown xs ys (base + 4 + 24 * i) (24 * (n - 1 - i)) → PutWord ys zs base (n - 1)
+    → Holds base most xs zs (removeAt i (tableAt xs base))
+unfolding removeAt tableAt tableBytes
+removed {xs} {ys} {zs} base most n i s q h u w =
+    let at : ℕ = base + 4 in
+    let here : ℕ = base + 4 + 24 * i in
+    let small : word32At xs base ≤ most = s .size in
+    let f : Frame base (base + tableBytes most) xs ys = frame-wider (u .frame) (omega arith) (omega arith) in
+    let less : n - suc i ≡ n - 1 - i = omega arith in
+    let next : at + 24 * suc i ≡ here + 24 = omega arith in
+    holds-after base most f
+    (resized base most (n - 1) w (omega arith) (rw (f .len) (s .fits))
+    (slots-cut ys at i (n - 1) (omega arith)
+    ∙ rw (
+      slots-kept-below (u .frame) at i (omega arith),
+      slots-alike (here + 24) here (n - 1 - i) (u .moved),
+      ← q,
+      slots-take xs at i n (omega arith),
+      slots-drop xs at (suc i) n (omega arith),
+      less,
+      next,
+    )))

@@ -60,8 +60,40 @@ pub record Stored (xs ys : List ℕ) (at : ℕ) (e : Slot) : Type 0 where
   pub frame : Frame at (at + 24) xs ys
   pub same : slotAt ys at ≡ e
 
+-- the n bytes of ys from b on are those of xs from a on
+pub record Alike (xs ys : List ℕ) (a b n : ℕ) : Type 0 where
+  pub same : (j : ℕ) → j < n → getD ys (b + j) 0 ≡ getD xs (a + j) 0
+
+-- the n bytes from a place on moved up by a slot, and nothing else changed
+pub record MovedUp (xs ys : List ℕ) (at n : ℕ) : Type 0 where
+  pub frame : Frame (at + 24) (at + 24 + n) xs ys
+  pub moved : Alike xs ys at (at + 24) n
+
+-- the n bytes from a slot after a place on moved down to it, and nothing else changed
+pub record MovedDown (xs ys : List ℕ) (at n : ℕ) : Type 0 where
+  pub frame : Frame at (at + n) xs ys
+  pub moved : Alike xs ys (at + 24) at n
+
 abbrev pub blank : Slot
 blank = record { handle = 0; kind = 0; mask = 0; table = 0; v0 = 0; v1 = 0; v2 = 0; v3 = 0 }
+
+-- the value of a slot in a column; past the last column it is 0
+unfoldable pub valueOf : Slot → ℕ → ℕ
+valueOf e c = getD (e .v0 ∷ e .v1 ∷ e .v2 ∷ e .v3 ∷ []) c 0
+
+-- the slot with another value in a column; past the last column as it is
+unfoldable pub withValue : Slot → ℕ → ℕ → Slot
+withValue e c v =
+    record {
+      handle = e .handle;
+      kind = e .kind;
+      mask = e .mask;
+      table = e .table;
+      v0 = if eqb c 0 then v else e .v0;
+      v1 = if eqb c 1 then v else e .v1;
+      v2 = if eqb c 2 then v else e .v2;
+      v3 = if eqb c 3 then v else e .v3;
+    }
 
 unfoldable pub insertAt : ℕ → Slot → List Slot → List Slot
 insertAt i e l = take i l ++ (e ∷ drop i l)

@@ -6,7 +6,7 @@ ghost use mathlib.Core.List.{[], _++_, _∷_};
 ghost use Prim.Native.Nat.{_+_, _*_, _/_, _%_, _≤_, _<_};
 ghost use lib.ListN.{length, getD, set, drop, replicate};
 ghost use Rattle.words.specs.Words.{word32At};
-ghost use Rattle.slots.specs.Slots.{slotAt, tableAt, tableBytes, Stands, Holds, Stored};
+ghost use Rattle.slots.specs.Slots.{slotAt, tableAt, tableBytes, valueOf, withValue, Stands, Holds, Stored, MovedUp, MovedDown};
 ghost use Rattle.slots.specs.Slots.{Sorted, insertAt, removeAt, placeIn, hit, findIn, blank};
 
 // A row, an effect on a row, or a row operation: what each field means is the table's owner's to say.
@@ -84,7 +84,46 @@ pub fn slot_at(room: &[u8], base: usize, most: usize, i: usize) -> Slot
     load(room, base + HEAD + SLOT * i)
 }
 
-// The field `table` of the slot i of the table at a base, without the rest of it.
+// The handle of the slot i of the table at a base, without the rest of it.
+pub fn handle_at(room: &[u8], base: usize, most: usize, i: usize) -> u32
+    requires { ⌜ Stands base most (now room) ⌝ }
+    requires { ⌜ i < word32At (now room) base ⌝ }
+    ensures { λ r. ⌜ r ≡ getD (tableAt (now (room .entry)) base) i blank .handle ⌝ }
+{
+    words::word32(room, base + HEAD + SLOT * i)
+}
+
+// The same for its kind.
+pub fn kind_at(room: &[u8], base: usize, most: usize, i: usize) -> usize
+    requires { ⌜ Stands base most (now room) ⌝ }
+    requires { ⌜ i < word32At (now room) base ⌝ }
+    ensures { λ r. ⌜ r ≡ getD (tableAt (now (room .entry)) base) i blank .kind ⌝ }
+{
+    (words::word32(room, base + HEAD + SLOT * i + 4) / 16777216 % 256) as usize
+}
+
+// The same for its mask.
+pub fn mask_at(room: &[u8], base: usize, most: usize, i: usize) -> usize
+    requires { ⌜ Stands base most (now room) ⌝ }
+    requires { ⌜ i < word32At (now room) base ⌝ }
+    ensures { λ r. ⌜ r ≡ getD (tableAt (now (room .entry)) base) i blank .mask ⌝ }
+{
+    (words::word32(room, base + HEAD + SLOT * i + 4) / 65536 % 256) as usize
+}
+
+// The same for its value in a column; past the last column it is 0.
+pub fn value_at(room: &[u8], base: usize, most: usize, i: usize, column: usize) -> u32
+    requires { ⌜ Stands base most (now room) ⌝ }
+    requires { ⌜ i < word32At (now room) base ⌝ }
+    ensures { λ r. ⌜ r ≡ valueOf (getD (tableAt (now (room .entry)) base) i blank) column ⌝ }
+{
+    if column < 4 {
+        return words::word32(room, base + HEAD + SLOT * i + 8 + 4 * column);
+    }
+    0
+}
+
+// The same for its field `table`.
 pub fn table_at(room: &[u8], base: usize, most: usize, i: usize) -> usize
     requires { ⌜ Stands base most (now room) ⌝ }
     requires { ⌜ i < word32At (now room) base ⌝ }
@@ -138,6 +177,37 @@ pub fn find(room: &[u8], base: usize, most: usize, handle: u32) -> Found
     Found::Nothing
 }
 
+// The same as `place`: nothing is searched where it is the near one, or at the end.
+pub fn place_near(room: &[u8], base: usize, most: usize, near: usize, handle: u32) -> usize
+    requires { ⌜ Stands base most (now room) ⌝ }
+    requires { ⌜ Sorted (tableAt (now room) base) ⌝ }
+    ensures { λ r. ⌜ r ≡ placeIn handle (tableAt (now (room .entry)) base) ⌝ }
+{
+    if is_at(room, base, most, near, handle) {
+        return near;
+    }
+    let n = size(room, base);
+    if n == 0 {
+        return 0;
+    }
+    if handle_at(room, base, most, n - 1) < handle {
+        return n;
+    }
+    place(room, base, most, handle)
+}
+
+// The same as `find`, with a near place to try first.
+pub fn find_near(room: &[u8], base: usize, most: usize, near: usize, handle: u32) -> Found
+    requires { ⌜ Stands base most (now room) ⌝ }
+    requires { ⌜ Sorted (tableAt (now room) base) ⌝ }
+    ensures { λ r. ⌜ r ≡ findIn handle (tableAt (now (room .entry)) base) ⌝ }
+{
+    if is_at(room, base, most, near, handle) {
+        return Found::At(near);
+    }
+    find(room, base, most, handle)
+}
+
 // A slot in the place of another.
 pub fn put_at(room: &mut [u8], base: usize, most: usize, i: usize, e: Slot)
     requires { ⌜ Stands base most (now room) ⌝ }
@@ -145,6 +215,30 @@ pub fn put_at(room: &mut [u8], base: usize, most: usize, i: usize, e: Slot)
     ensures { λ _. ⌜ Holds base most (now (room .entry)) (now (room .exit)) (set (tableAt (now (room .entry)) base) i e) ⌝ }
 {
     store(room, base + HEAD + SLOT * i, e);
+}
+
+// The n bytes from a place on move up by a slot. Bytes, so that the compiler moves many at a time.
+fn move_up(room: &mut [u8], at: usize, n: usize)
+    requires { ⌜ at + n + 24 ≤ length (now room) ⌝ }
+    ensures { λ _. ⌜ MovedUp (now (room .entry)) (now (room .exit)) at n ⌝ }
+{
+    let mut left = n;
+    while 0 < left {
+        left -= 1;
+        room[at + SLOT + left] = room[at + left];
+    }
+}
+
+// The n bytes from a slot after a place on move down by a slot.
+fn move_down(room: &mut [u8], at: usize, n: usize)
+    requires { ⌜ at + n + 24 ≤ length (now room) ⌝ }
+    ensures { λ _. ⌜ MovedDown (now (room .entry)) (now (room .exit)) at n ⌝ }
+{
+    let mut j: usize = 0;
+    while j < n {
+        room[at + j] = room[at + SLOT + j];
+        j += 1;
+    }
 }
 
 // A slot more at a place; those from there on move up.
@@ -156,12 +250,7 @@ pub fn insert_at(room: &mut [u8], base: usize, most: usize, i: usize, e: Slot)
     ensures { λ _. ⌜ Holds base most (now (room .entry)) (now (room .exit)) (insertAt i e (tableAt (now (room .entry)) base)) ⌝ }
 {
     let n = size(room, base);
-    let mut j = n;
-    while i < j {
-        let x = load(room, base + HEAD + SLOT * (j - 1));
-        store(room, base + HEAD + SLOT * j, x);
-        j -= 1;
-    }
+    move_up(room, base + HEAD + SLOT * i, SLOT * (n - i));
     store(room, base + HEAD + SLOT * i, e);
     words::put32(room, base, (n + 1) as u32);
 }
@@ -173,12 +262,7 @@ pub fn remove_at(room: &mut [u8], base: usize, most: usize, i: usize)
     ensures { λ _. ⌜ Holds base most (now (room .entry)) (now (room .exit)) (removeAt i (tableAt (now (room .entry)) base)) ⌝ }
 {
     let n = size(room, base);
-    let mut j = i;
-    while j + 1 < n {
-        let next = load(room, base + HEAD + SLOT * (j + 1));
-        store(room, base + HEAD + SLOT * j, next);
-        j += 1;
-    }
+    move_down(room, base + HEAD + SLOT * i, SLOT * (n - 1 - i));
     words::put32(room, base, (n - 1) as u32);
 }
 
@@ -191,6 +275,52 @@ pub fn push(room: &mut [u8], base: usize, most: usize, e: Slot)
 {
     let end = size(room, base);
     store(room, base + HEAD + SLOT * end, e);
+    words::put32(room, base, (end + 1) as u32);
+}
+
+// Another value in a column 0..3 of the slot i.
+pub fn put_value(room: &mut [u8], base: usize, most: usize, i: usize, column: usize, v: u32)
+    requires { ⌜ Stands base most (now room) ⌝ }
+    requires { ⌜ i < word32At (now room) base ⌝ }
+    requires { ⌜ column < 4 ⌝ }
+    ensures { λ _. ⌜ Holds base most (now (room .entry)) (now (room .exit))
+        (set (tableAt (now (room .entry)) base) i (withValue (getD (tableAt (now (room .entry)) base) i blank) column v)) ⌝ }
+{
+    words::put32(room, base + HEAD + SLOT * i + 8 + 4 * column, v);
+}
+
+// The 24 bytes of a slot at another place.
+fn copy(room: &mut [u8], from: usize, to: usize)
+    requires { ⌜ from + 24 ≤ length (now room) ⌝ }
+    requires { ⌜ to + 24 ≤ length (now room) ⌝ }
+    ensures { λ _. ⌜ Stored (now (room .entry)) (now (room .exit)) to (slotAt (now (room .entry)) from) ⌝ }
+{
+    let handle = words::word32(room, from);
+    let marks = words::word32(room, from + 4);
+    let v0 = words::word32(room, from + 8);
+    let v1 = words::word32(room, from + 12);
+    let v2 = words::word32(room, from + 16);
+    let v3 = words::word32(room, from + 20);
+    words::put32(room, to, handle);
+    words::put32(room, to + 4, marks);
+    words::put32(room, to + 8, v0);
+    words::put32(room, to + 12, v1);
+    words::put32(room, to + 16, v2);
+    words::put32(room, to + 20, v3);
+}
+
+// The slot i of the table at `from` once more, at the end of another table.
+pub fn push_from(room: &mut [u8], base: usize, most: usize, from: usize, held: usize, i: usize)
+    requires { ⌜ Stands base most (now room) ⌝ }
+    requires { ⌜ word32At (now room) base < most ⌝ }
+    requires { ⌜ most < 4294967296 ⌝ }
+    requires { ⌜ Stands from held (now room) ⌝ }
+    requires { ⌜ i < word32At (now room) from ⌝ }
+    ensures { λ _. ⌜ Holds base most (now (room .entry)) (now (room .exit))
+        (tableAt (now (room .entry)) base ++ (getD (tableAt (now (room .entry)) from) i blank ∷ [])) ⌝ }
+{
+    let end = size(room, base);
+    copy(room, from + HEAD + SLOT * i, base + HEAD + SLOT * end);
     words::put32(room, base, (end + 1) as u32);
 }
 

@@ -1,12 +1,15 @@
 -- An accepted run over the bytes that it leaves one after another. A loaded room represents the start of the specification's run, so that
 -- the processed room holds its end, and what is handed back are the bytes of the specification's image; past the tables nothing changes.
-use mathlib.Core.Path.{_≡_, sym, ap, _∙_}
+use mathlib.Core.Path.{_≡_, refl, sym, ap, _∙_}
+use mathlib.Core.Bool.{Bool, true, false}
 use mathlib.Core.List.{List, _++_}
 use mathlib.Core.Option.{some}
-use Prim.Native.Nat.{ℕ, _+_, _-_, _≤_}
+use Prim.Native.Nat.{ℕ, _+_, _-_, _≤_, _<_}
 use native.Mathlib.Omega.{arith}
-use lib.ListN.{length, drop, replicate, length-drop, length-replicate}
+use lib.Dec.{ltb}
+use lib.ListN.{length, getD, drop, replicate, length-drop, length-replicate}
 use lib.Seq.{ext-getD, getD-drop}
+use borrow.Author.Tests.{ltb-true, ltb-false}
 use Rattle.meaning.specs.Base.{inFrontOf}
 use Rattle.meaning.specs.Reading.{readAll}
 use Rattle.meaning.specs.Covers.{Image}
@@ -19,10 +22,13 @@ use Rattle.meaning.proofs.WrittenRead.{image-fits}
 use Rattle.words.specs.Words.{Bytes, word32At}
 use Rattle.slots.specs.Slots.{Stands}
 use Rattle.room.specs.Room.{NEXT, LIVE, END, ROWS, Kept, liveRows}
+use Rattle.room.specs.Joins as Joins
 use Rattle.room.specs.Represents.{Represents}
 use Rattle.room.proofs.Kept.{kept-trans}
 use Rattle.room.proofs.Marks.{starting}
-use Rattle.plan.specs.Plans.{rulesIn}
+use Rattle.plan.specs.declared.Plan.{Plan}
+use Rattle.plan.specs.Plans.{rulesIn, Planned}
+use Rattle.plan.proofs.Active.{own-within}
 use Rattle.loading.specs.Loads.{Loads}
 use Rattle.loading.proofs.Started.{loaded-represents}
 use Rattle.processing.specs.declared.Outcome.{Outcome}
@@ -58,6 +64,18 @@ handed-meant RolledBack image ys start e is next rows given = rw (← is) (sym g
 handed-meant StepLimit image ys start e is next rows given = rw (← is) (sym given)
 handed-meant (Failed r) image ys start e is next rows given = rw (← is) (sym given)
 
+-- ---- The tables of a plan
+
+-- the rules of a plan have their own table, or 4, and past them stands 5
+planned-ended : {book : List ℕ} {plan : Plan} → Planned book (plan .count) plan → Joins.Ended (plan .tables)
+planned-ended {plan = plan} p = record { stays = λ j k le few past. go j k le few past (ltb j (plan .count)) refl }
+  where
+    go : (j k : ℕ) → j ≤ k → k < 16 → 4 < getD (plan .tables) j 0 → (b : Bool) → ltb j (plan .count) ≡ b → 4 < getD (plan .tables) k 0
+    go j k le few past true e = absurd (omega (arith, own-within (p .placed j (ltb-true j (plan .count) e))))
+    go j k le few past false e =
+        let beyond = ltb-false j (plan .count) e in
+        rw (p .absent k (omega arith) few) (omega arith)
+
 -- ---- The run
 
 module _ {image book : List ℕ} {a : Accepted} (ok : Accepts image book a) where
@@ -67,10 +85,11 @@ module _ {image book : List ℕ} {a : Accepted} (ok : Accepts image book a) wher
 
   module _ {xs ys : List ℕ} (loads : Loads image xs ys) (bytes : Bytes ys) where
     represents-start : (start : Image) → readAll ByteLayouts.image image ≡ some start
-        → Represents ys (a .plan .active) (starting (rulesIn book (a .plan .count)) start)
-    represents-start start e = loaded-represents (rulesIn book (a .plan .count)) (loads .is start e) bytes
+        → Represents ys (a .plan .tables) (starting (rulesIn book (a .plan .count)) start)
+    represents-start start e =
+        loaded-represents (rulesIn book (a .plan .count)) (loads .is start e) bytes (planned-ended (ok .planned))
 
-    pub starts : Starts ys (a .plan .active) (rulesIn book (a .plan .count))
+    pub starts : Starts ys (a .plan .tables) (rulesIn book (a .plan .count))
     unfolding startImage
     starts =
         record {

@@ -25,7 +25,8 @@ use Rattle.room.specs.Drawn.{drawnFor, Few, Drew}
 use Rattle.slots.proofs.Order.{strict}
 use Rattle.room.proofs.Live.{rows-length}
 use Rattle.room.proofs.Kept.{kept-below, kept-above, transition-kept, laid-behind}
-use Rattle.transition.specs.Shown.{RoomFor, Grown, Live, insertedOf, deletedOf, newOf, oldOf, Ready, Shown, Bare, Emptied}
+use Rattle.transition.proofs.Lookups.{live-kept, rows-kept, still-live}
+use Rattle.transition.specs.Shown.{slotIn, RoomFor, Grown, Live, insertedOf, deletedOf, newOf, oldOf, Ready, Shown, Bare, Emptied}
 
 -- ---- Emptying
 
@@ -57,20 +58,12 @@ all-emptied {x0} {x1} {x2} {x3} {x4} a b c d =
 -- ---- What stays where only the four tables are written
 
 module _ {xs ys : List ℕ} (w : Laid xs) (f : Frame INSERTED CHOSEN xs ys) where
-  live-kept : tableAt ys LIVE ≡ tableAt xs LIVE
-  unfolding tableBytes
-  live-kept = table-kept-below f LIVE ROWS (w .live) (omega arith)
-
-  rows-kept : liveRows ys ≡ liveRows xs
-  unfolding liveRows
-  rows-kept = ap rowsMeant live-kept
-
   wait-kept : (j : ℕ) → j < 16 → tableAt ys (waitAt j) ≡ tableAt xs (waitAt j)
   wait-kept j h = table-kept-above f (waitAt j) ENTRIES (w .waits j h) (omega arith)
 
   drawn-kept : (k : ℕ) (rule : Rule) → k < 16 → drawnFor ys k rule ≡ drawnFor xs k rule
   unfolding drawnFor waitsIn
-  drawn-kept k rule h = rw (rows-kept, wait-kept k h)
+  drawn-kept k rule h = rw (rows-kept f (omega arith) (w .live), wait-kept k h)
 
   laid-kept : Stands INSERTED ROWS ys → Stands DELETED ROWS ys → Stands NEW ROWS ys → Stands OLD ROWS ys → Laid ys
   unfolding tableBytes
@@ -100,7 +93,7 @@ begin {rule} k w b s few e =
     record {
       laid = laid-kept w (e .frame) (e .inserted .stands) (e .deleted .stands) (e .new .stands) (e .old .stands);
       within = b;
-      sorted = rw (live-kept w (e .frame)) s;
+      sorted = rw (live-kept (e .frame) (omega arith) (w .live)) s;
       few = rw (drawn-kept w (e .frame) k rule b) few;
     }
 
@@ -210,25 +203,25 @@ module _ {rule : Rule} {x0 x : List ℕ} (k n left : ℕ) (d : Drawing rule k x0
   draw-laid = laid-kept (d .begun .laid) (d .frame) (d .inserted .stands) (d .deleted .stands) (d .new .stands) (d .old .stands)
 
   rows-same : liveRows x ≡ liveRows x0
-  rows-same = rows-kept (d .begun .laid) (d .frame)
+  rows-same = rows-kept (d .frame) (omega arith) (d .begun .laid .live)
 
   pub draw-live : Live x
-  draw-live = record { stands = draw-laid .live; sorted = rw (live-kept (d .begun .laid) (d .frame)) (d .begun .sorted) }
+  draw-live = still-live (d .frame) (omega arith) (record { stands = d .begun .laid .live; sorted = d .begun .sorted })
 
   pub draw-wait : Stands (waitAt k) ENTRIES x
   draw-wait = draw-laid .waits k (d .begun .within)
 
-  pub draw-size : word32At x (waitAt k) ≡ n
-  draw-size = word-kept-above (d .frame) (waitAt k) (omega arith) ∙ sym (d .size)
+  module _ (more : 0 < left) where
+    pub draw-within : n - left < word32At x (waitAt k)
+    draw-within = omega (arith, word-kept-above (d .frame) (waitAt k) (omega arith), d .size, d .most)
 
-  module _ {e : Slot} (more : 0 < left) (q : e ≡ getD (tableAt x (waitAt k)) (n - left) blank) where
-    was : e ≡ getD (tableAt x0 (waitAt k)) (n - left) blank
-    was = q ∙ ap (λ (l : List Slot). getD l (n - left) blank) (wait-kept (d .begun .laid) (d .frame) k (d .begun .within))
+    was : slotIn x (waitAt k) (n - left) ≡ slotIn x0 (waitAt k) (n - left)
+    was = ap (λ (l : List Slot). getD l (n - left) blank) (wait-kept (d .begun .laid) (d .frame) k (d .begun .within))
 
     inside : n - left < length (tableAt x0 (waitAt k))
     inside = omega (arith, d .size, d .most, table-length x0 (waitAt k))
 
-    pub draw-ready : Ready rule e x
+    pub draw-ready : Ready rule (slotIn x (waitAt k) (n - left)) x
     draw-ready =
         let few : Few (drawnFor x0 k rule) = d .begun .few in
         let i : ℕ = n - left in
@@ -239,7 +232,7 @@ module _ {rule : Rule} {x0 x : List ℕ} (k n left : ℕ) (d : Drawing rule k x0
           old = rw rows-same (part-room i (d .old) inside was (rw (drawn-old rule k x0) at (few .old)));
         }
 
-    pub draw-step : {y : List ℕ} → Shown rule e x y → Drawing rule k x0 y n (left - 1)
+    pub draw-step : {y : List ℕ} → Shown rule (slotIn x (waitAt k) (n - left)) x y → Drawing rule k x0 y n (left - 1)
     draw-step s =
         let on : n - (left - 1) ≡ suc (n - left) = omega (arith, d .most) in
         record {

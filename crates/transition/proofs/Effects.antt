@@ -16,7 +16,7 @@ use Rattle.meaning.specs.Processing.TransitionTables.{meets, ownTable, ownRow, 
 use Rattle.words.specs.Words.{word32At}
 use Rattle.slots.specs.declared.Slot.{Slot}
 use Rattle.slots.specs.Slots.{tableAt, tableBytes, Frame, Stands, Holds}
-use Rattle.slots.proofs.Frames.{frame-refl, frame-wider, frame-join, word-kept-above}
+use Rattle.slots.proofs.Frames.{frame-refl, frame-wider, frame-join, word-kept-below}
 use Rattle.slots.proofs.Tables.{table-kept-below, table-kept-above, stands-kept-below, stands-kept-above}
 use Rattle.room.specs.declared.Watch.{Watch}
 use Rattle.room.specs.Room.{INSERTED, DELETED, NEW, OLD, CHOSEN, ROWS, watchRule, rowMeant, rowsMeant, effectMeant, liveRows}
@@ -69,9 +69,10 @@ module _ {lo hi base : ℕ} {xs ys : List ℕ} (f : Frame lo hi xs ys) where
   pub grown-above : Stands base ROWS xs → hi ≤ base → Grown base xs ys none
   grown-above s h = same-grown (stands-kept-above f base ROWS s h) (table-kept-above f base ROWS s h)
 
-  pub room-above : {o : Option Row} → RoomFor base xs o → hi ≤ base → RoomFor base ys o
-  room-above w h =
-      record { stands = stands-kept-above f base ROWS (w .stands) h; spare = rw (word-kept-above f base h) (w .spare) }
+  pub room-below : {o : Option Row} → RoomFor base xs o → base + tableBytes ROWS ≤ lo → RoomFor base ys o
+  unfolding tableBytes
+  room-below w h =
+      record { stands = stands-kept-below f base ROWS (w .stands) h; spare = rw (word-kept-below f base (omega arith)) (w .spare) }
 
 module _ {base : ℕ} {xs ys zs : List ℕ} {o : Option Row} where
   -- first the table stays, or then
@@ -204,8 +205,8 @@ module _ {rule : Rule} {e : Slot} {xs : List ℕ} (w : Ready rule e xs) where
         old = rw (t .old) (grown-above (a .frame) (w .old .stands) (omega arith));
       }
 
-  pub shown-updated : {ys zs : List ℕ} {o p : Option Row} → Tells rule (liveRows xs) e none none o p → Added NEW xs ys o
-      → Added OLD ys zs p → Shown rule e xs zs
+  pub shown-updated : {ys zs : List ℕ} {o p : Option Row} → Tells rule (liveRows xs) e none none o p → Added OLD xs ys p
+      → Added NEW ys zs o → Shown rule e xs zs
   unfolding tableBytes
   shown-updated {ys} {zs} t a b =
       let f : Frame NEW CHOSEN xs zs =
@@ -214,6 +215,6 @@ module _ {rule : Rule} {e : Slot} {xs : List ℕ} (w : Ready rule e xs) where
         frame = frame-wider f (omega arith) (omega arith);
         inserted = rw (t .inserted) (grown-below f (w .inserted .stands) (omega arith));
         deleted = rw (t .deleted) (grown-below f (w .deleted .stands) (omega arith));
-        new = rw (t .new) (grown-then (a .grown) (grown-below (b .frame) (a .grown .stands) (omega arith)));
-        old = rw (t .old) (then-grown (grown-above (a .frame) (w .old .stands) (omega arith)) (b .grown));
+        new = rw (t .new) (then-grown (grown-below (a .frame) (w .new .stands) (omega arith)) (b .grown));
+        old = rw (t .old) (grown-then (a .grown) (grown-above (b .frame) (a .grown .stands) (omega arith)));
       }

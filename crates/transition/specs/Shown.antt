@@ -3,16 +3,24 @@ use mathlib.Core.Path.{_≡_}
 use mathlib.Core.List.{List, [], _++_}
 use mathlib.Core.Option.{Option}
 use Prim.Native.Nat.{ℕ, _+_, _≤_}
-use lib.ListN.{length}
+use lib.ListN.{length, getD}
 use Rattle.meaning.specs.Base.{before}
 use Rattle.meaning.specs.Covers.{Row, Rule}
-use Rattle.meaning.specs.Processing.TransitionTables.{insertedRow, deletedRow, newRow, oldRow}
+use Rattle.meaning.specs.Processing.TransitionTables.{ownRow, insertedRow, deletedRow, newRow, oldRow}
 use Rattle.words.specs.Words.{word32At}
 use Rattle.slots.specs.declared.Slot.{Slot}
-use Rattle.slots.specs.Slots.{tableAt, tableBytes, Frame, Stands, Sorted}
-use Rattle.room.specs.Room.{LIVE, INSERTED, DELETED, NEW, OLD, CHOSEN, ROWS, rowsMeant, effectMeant, liveRows}
+use Rattle.slots.specs.Slots.{tableAt, tableBytes, Frame, Stands, Sorted, blank}
+use Rattle.room.specs.Room.{LIVE, INSERTED, DELETED, NEW, OLD, CHOSEN, ROWS, rowMeant, rowsMeant, effectMeant, liveRows}
 
 -- ---- One table
+
+-- the slot i of the table at a base
+abbrev pub slotIn : List ℕ → ℕ → ℕ → Slot
+slotIn xs base i = getD (tableAt xs base) i blank
+
+-- the row that it holds, if it is of the rule's own table
+abbrev pub ownIn : Rule → List ℕ → ℕ → ℕ → Option Row
+ownIn rule xs base i = ownRow rule (rowMeant (slotIn xs base i))
 
 -- the table at a base has room for a row more, if there is one
 pub record RoomFor (base : ℕ) (xs : List ℕ) (o : Option Row) : Type 0 where

@@ -37,7 +37,7 @@ ahead-none l n (suc m) h = absurd (omega arith)
 pub record Walked (xs s : List ℕ) (plan : Plan) (n left : ℕ) : Type 0 where
   pub high : left ≤ n
   pub long : n ≤ length (plan .order .rules)
-  pub rest : (state : State) → Represents xs (plan .active) state
+  pub rest : (state : State) → Represents xs (plan .tables) state
       → firstTriggered (rulesIn s (plan .count)) (orderIn plan) state
       ≡ firstWith (triggered (rulesIn s (plan .count)) state) (ahead (plan .order .rules) n left)
 

@@ -3,7 +3,7 @@
 use mathlib.Core.Path.{_≡_, refl, sym, ap, _∙_}
 use mathlib.Core.Bool.{Bool, true, false, _&&_}
 use mathlib.Core.List.{List}
-use Prim.Native.Nat.{ℕ, _<_}
+use Prim.Native.Nat.{ℕ, _≤_, _<_}
 use lib.ListN.{getD}
 use Rattle.meaning.specs.Base.{any}
 use Rattle.meaning.specs.Covers.{Rule}
@@ -18,8 +18,10 @@ use Rattle.book.specs.Books.{headThen, ruleOf}
 use Rattle.book.proofs.Laws.{head-read, head-stands}
 use Rattle.plan.specs.declared.Plan.{Plan}
 use Rattle.plan.specs.Plans.{Placed}
+use Rattle.plan.proofs.Active.{low-active, low-own, high-idle}
 use Rattle.room.specs.declared.Watch.{Watch}
 use Rattle.room.specs.Room.{watchRule, waitsIn}
+use Rattle.room.proofs.Draws.{woken-whole}
 use Rattle.trigger.specs.Triggers.{Triggers}
 
 -- ---- What wakes a rule asks only for its table, its triggers and its columns
@@ -55,31 +57,28 @@ watched r head w same made =
 -- ---- Whether rule k is triggered
 
 -- where the plan says that a rule stands, a head can be read
-pub can-read : {s : List ℕ} {n k start : ℕ} {active : Bool} → Placed s n k start active → {read : HeadRead}
+pub can-read : {s : List ℕ} {n k start table : ℕ} → Placed s n k start table → {read : HeadRead}
     → headThen s start read ≡ ByteLayouts.rule n s start → read ≡ headRead.Bad → ⊥
 can-read {s} {start = start} here e is = head-stands s start (e ∙ here .read) is
 
 module _ (xs : List ℕ) {s : List ℕ} {plan : Plan} (k : ℕ) (here : Placed s (plan .count) k (getD (plan .starts) k 0)
-    (getD (plan .active) k false)) where
-  pub not-active : getD (plan .active) k false ≡ false → Triggers xs s plan k false
+    (getD (plan .tables) k 0)) where
+  pub not-active : 3 < getD (plan .tables) k 0 → Triggers xs s plan k false
   unfolding triggered
-  not-active off =
-      let idle : here .rule .active ≡ false = sym (here .is) ∙ off in
-      record { is = λ state rep. rw (here .listed, idle) }
+  not-active off = record { is = λ state rep. rw (here .listed, high-idle here off) }
 
-  pub read-and-woken : {read : HeadRead} {head : Head} (w : Watch) {r : Bool} → k < 16 → getD (plan .active) k false ≡ true
+  pub read-and-woken : {read : HeadRead} {head : Head} (w : Watch) {r : Bool} → k < 16 → getD (plan .tables) k 0 ≤ 3
       → headThen s (getD (plan .starts) k 0) read ≡ ByteLayouts.rule (plan .count) s (getD (plan .starts) k 0)
       → read ≡ headRead.Is head → (w .table ≡ head .table) × (w .triggers ≡ head .triggers) × (w .columns ≡ head .columns)
       → r ≡ any (λ p. wakes (watchRule w) (p .1)) (waitsIn xs k) → Triggers xs s plan k r
   unfolding triggered
   read-and-woken {head = head} w {r} low on e is made asked =
-      let runs : here .rule .active ≡ true = sym (here .is) ∙ on in
       let of = watched (here .rule) head w (head-read s (getD (plan .starts) k 0) (e ∙ here .read) is) made in
       record {
         is = λ state rep.
             rw (here .listed)
             (asked
             ∙ any-same (here .rule) w of (waitsIn xs k)
-            ∙ ap (any (λ p. wakes (here .rule) (p .1))) (rep .waiting k low on)
-            ∙ ap (λ (t : Bool). t && any (λ p. wakes (here .rule) (p .1)) (waits state k)) (sym runs));
+            ∙ woken-whole rep k low (here .rule) (low-own here on)
+            ∙ ap (λ (t : Bool). t && any (λ p. wakes (here .rule) (p .1)) (waits state k)) (sym (low-active here on)));
       }

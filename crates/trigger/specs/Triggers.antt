@@ -26,9 +26,9 @@ pub record Numbers (plan : Plan) : Type 0 where
 
 -- for every state that the room represents, rule k is triggered or not
 pub record Triggers (xs s : List ℕ) (plan : Plan) (k : ℕ) (r : Bool) : Type 0 where
-  pub is : (state : State) → Represents xs (plan .active) state → r ≡ triggered (rulesIn s (plan .count)) state k
+  pub is : (state : State) → Represents xs (plan .tables) state → r ≡ triggered (rulesIn s (plan .count)) state k
 
 -- for every state that the room represents, the first triggered rule in total order
 pub record TriggersFirst (xs s : List ℕ) (plan : Plan) (r : Next) : Type 0 where
-  pub is : (state : State) → Represents xs (plan .active) state
+  pub is : (state : State) → Represents xs (plan .tables) state
       → nextMeant r ≡ firstTriggered (rulesIn s (plan .count)) (orderIn plan) state

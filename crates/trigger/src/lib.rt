@@ -33,8 +33,8 @@ fn is_triggered(room: &[u8], s: &[u8], plan: Plan, k: usize) -> bool
     requires { ⌜ Planned (now s) (plan .count) plan ⌝ }
     ensures { λ r. ⌜ Triggers (now (room .entry)) (now (s .entry)) plan k r ⌝ }
 {
-    let active = plan.active;
-    if !active[k] {
+    let tables = plan.tables;
+    if 3 < tables[k] {
         return false;
     }
     let starts = plan.starts;

@@ -12,25 +12,22 @@ use lib.ListN.{length}
 use Rattle.meaning.specs.Base.{bit, maybe, both, eachOr}
 use Rattle.meaning.specs.Covers.{Row, Expression}
 use Rattle.meaning.specs.Reading.{bad, got}
+use Rattle.meaning.specs.Values.{signed}
 use Rattle.meaning.specs.ByteLayouts.{expression}
 use Rattle.meaning.specs.Processing.Queries.{workOut, workOutAll}
 use Rattle.words.specs.Words.{readable}
 use Rattle.words.proofs.Laws.{readable-none, readable-bad, readable-more}
 use Rattle.slots.specs.declared.Slot.{Slot}
+use Rattle.slots.specs.Slots.{withValue}
 use Rattle.room.specs.Room.{rowMeant}
-use Rattle.working.specs.Working.{withCell, withWorked, workedRow}
+use Rattle.working.specs.Working.{withCell, workedRow}
+use Rattle.working.proofs.Cells.{row-valued}
 use Rattle.working.proofs.Columns.{bitsFrom, bits-all, bits-none, bits-set, bits-unset}
 use Rattle.working.proofs.Columns.{filled, filled-all, filled-none, filled-set, filled-unset}
 
 -- what the expressions give, filled in from column c on
 unfoldable pub workedFrom : List Expression → Row → ℕ → ℕ → Row → Option Row
 workedFrom es old mask c r = maybe (workOutAll es old) none (λ vs. some (filled mask c vs r))
-
--- nothing in a column is nothing worked out
-worked-out : (r : Row) (c : ℕ) (m : Option ℤ) → none ≡ withWorked r c m → m ≡ none
-unfolding withWorked
-worked-out r c none e = refl
-worked-out r c (some v) e = cc
 
 module _ (old : Row) (mask c : ℕ) (r : Row) where
   from-none : workedFrom [] old mask c r ≡ some r
@@ -47,18 +44,10 @@ module _ (old : Row) (mask c : ℕ) (r : Row) where
   maybe-both v (some vs) f g h = h vs
 
   module _ (h : c < length (r .values)) where
-    from-set : bit mask c ≡ true → (x : Expression) (es : List Expression) (new : Row) → some new ≡ withWorked r c (workOut old x)
-        → workedFrom (x ∷ es) old mask c r ≡ workedFrom es old mask (c + 1) new
-    unfolding workedFrom workOutAll withWorked
-    from-set e x es new q = go (workOut old x) q
-      where
-        go : (m : Option ℤ) → some new ≡ withWorked r c m
-            → maybe (both m (eachOr (workOut old) es)) none (λ vs. some (filled mask c vs r))
-            ≡ maybe (eachOr (workOut old) es) none (λ vs. some (filled mask (c + 1) vs new))
-        go none z = cc
-        go (some v) z =
-            let same : new ≡ withCell r c v = cc in
-            rw same (maybe-both v (eachOr (workOut old) es) _ _ (λ vs. ap some (filled-set r mask c h e v vs)))
+    from-set : bit mask c ≡ true → (x : Expression) (es : List Expression) (v : ℤ) → some v ≡ workOut old x
+        → workedFrom (x ∷ es) old mask c r ≡ workedFrom es old mask (c + 1) (withCell r c v)
+    unfolding workedFrom workOutAll
+    from-set e x es v q = rw (← q) (maybe-both v (eachOr (workOut old) es) _ _ (λ vs. ap some (filled-set r mask c h e v vs)))
 
     from-unset : bit mask c ≡ false → (es : List Expression) → workedFrom es old mask c r ≡ workedFrom es old mask (c + 1) r
     unfolding workedFrom
@@ -110,15 +99,13 @@ module _ (book : List ℕ) (mask : ℕ) where
             let less : bitsFrom mask c - 1 ≡ bitsFrom mask (c + 1) = omega (arith, bits-set mask c e) in
             readable-more expression (bitsFrom mask c) book here x next (omega (arith, bits-set mask c e)) q ∙ rw less
 
-        pub working-out : none ≡ withWorked (rowMeant row) c (workOut old x) → none ≡ whole
-        working-out n =
-            sym (w .is ∙ rw first (from-out old mask c (rowMeant row) x _ (worked-out (rowMeant row) c (workOut old x) n)))
+        pub working-out : none ≡ workOut old x → none ≡ whole
+        working-out n = sym (w .is ∙ rw first (from-out old mask c (rowMeant row) x _ (sym n)))
 
-        pub working-set : (new : Slot) → some (rowMeant new) ≡ withWorked (rowMeant row) c (workOut old x)
-            → Working book mask old whole new next (c + 1)
+        pub working-set : (v : ℕ) → some (signed v) ≡ workOut old x → Working book mask old whole (withValue row c v) next (c + 1)
         unfolding rowMeant
-        working-set new n =
+        working-set v n =
             record {
               low = omega arith;
-              is = w .is ∙ rw first (from-set old mask c (rowMeant row) h e x _ (rowMeant new) n);
+              is = w .is ∙ rw (first, row-valued row c v h) (from-set old mask c (rowMeant row) h e x _ (signed v) n);
             }

@@ -1,13 +1,14 @@
 -- The loop over the chosen rows, which counts down what is left: the rows worked out so far, then what those that are left give, are what
 -- all of them give. Only the table of rows worked out changes, and the chosen rows stand below it.
 use mathlib.Core.Path.{_≡_, refl, sym, ap, _∙_}
-use mathlib.Core.Bool.{true, false}
+use mathlib.Core.Bool.{Bool, true, false}
 use mathlib.Core.List.{List, [], _∷_, _++_, append-nil, append-assoc}
 use mathlib.Core.Option.{Option, none, some}
-use Prim.Native.Nat.{ℕ, _+_, _-_, _≤_, _<_}
+use Prim.Native.Nat.{ℕ, suc, _+_, _-_, _≤_, _<_}
 use native.Mathlib.Omega.{arith}
 use lib.IntN.{ℤ}
-use lib.ListN.{length, getD, drop, length-append}
+use lib.ListN.{length, getD, drop, drop-of-length-le, length-append}
+use lib.Seq.{drop-cons, set-at, getD-append-seam}
 use Rattle.meaning.specs.Base.{maybe, both, eachOr}
 use Rattle.meaning.specs.Covers.{Row, Expression}
 use Rattle.meaning.specs.Processing.Queries.{workOutAll}
@@ -16,11 +17,24 @@ use Rattle.words.specs.Words.{word32At}
 use Rattle.slots.specs.declared.Slot.{Slot}
 use Rattle.slots.specs.Slots.{tableAt, tableBytes, Frame, Stands, Holds, blank}
 use Rattle.slots.proofs.Frames.{frame-refl, frame-trans}
-use Rattle.slots.proofs.Tables.{table-length, table-kept-below, stands-kept-below}
+use Rattle.slots.proofs.Tables.{table-length, table-kept-below, stands-kept-below, holds-size}
 use Rattle.room.specs.Room.{CHOSEN, WORKED, ROWS, Laid, rowMeant, rowsMeant, rowsWith}
 use Rattle.room.proofs.Live.{rows-pushed}
-use Rattle.query.proofs.Loops.{rest-all, rest-none, rest-more}
-use Rattle.working.specs.Working.{workedRow, allWorked, Works, WorkedOut, WorkedValues}
+use Rattle.working.specs.Working.{workedRow, allWorked, Works, Ready, RowWorked, WorkedOut, WorkedValues}
+
+-- ---- What is left of a list, by its length: the last `left` of n
+
+module _ {A : Type 0} (l : List A) (n left : ℕ) (size : n ≡ length l) where
+  rest-all : drop (n - n) l ≡ l
+  rest-all = let z : n - n ≡ 0 = omega arith in rw z
+
+  rest-none : left ≤ 0 → drop (n - left) l ≡ []
+  rest-none h = drop-of-length-le l {i = n - left} (omega arith)
+
+  rest-more : (d : A) → left ≤ n → 0 < left → drop (n - left) l ≡ getD l (n - left) d ∷ drop (n - (left - 1)) l
+  rest-more d low more =
+      let next : n - (left - 1) ≡ suc (n - left) = omega arith in
+      rw next (drop-cons l (n - left) d (omega arith))
 
 -- ---- Row by row
 
@@ -64,7 +78,7 @@ pub record Turning (x0 x : List ℕ) (es : List Expression) (mask n left : ℕ) 
   pub low : left ≤ n
   pub frame : Frame WORKED (WORKED + tableBytes ROWS) x0 x
   pub stands : Stands WORKED ROWS x
-  pub few : length (tableAt x WORKED) + left ≤ n
+  pub sofar : length (tableAt x WORKED) + left ≡ n
   pub list : eachOr (workedRow es mask) (rowsMeant (tableAt x0 CHOSEN))
       ≡ following (rowsMeant (tableAt x WORKED)) (eachOr (workedRow es mask) (rowsMeant (drop (n - left) (tableAt x0 CHOSEN))))
 
@@ -108,21 +122,21 @@ module _ {xs x0 : List ℕ} (laid : Laid xs) (h : Holds WORKED ROWS xs x0 []) wh
           low = omega arith;
           frame = frame-refl;
           stands = h .stands;
-          few = rw none (omega arith);
+          sofar = rw none (omega arith);
           list =
               rw (none, rest-all (tableAt x0 CHOSEN) n 0 size)
               (following-nothing (eachOr (workedRow es mask) (rowsMeant (tableAt x0 CHOSEN))));
         }
 
     module _ {x : List ℕ} {n left : ℕ} (t : Turning x0 x es mask n left) where
-      turning-works : Works xs x
-      turning-works = record { frame = frame-trans (h .frame) (t .frame); stands = t .stands }
+      done-works : Works xs x
+      done-works = record { frame = frame-trans (h .frame) (t .frame); stands = t .stands }
 
       pub turning-done : left ≤ 0 → WorkedOut xs x es mask true
       unfolding allWorked whole following rowsMeant
       turning-done z =
           record {
-            works = turning-works;
+            works = done-works;
             rows =
                 sym
                 (whole-each es mask (rowsMeant (tableAt xs CHOSEN))
@@ -130,14 +144,15 @@ module _ {xs x0 : List ℕ} (laid : Laid xs) (h : Holds WORKED ROWS xs x0 []) wh
                 (t .list ∙ rw (rest-none (tableAt x0 CHOSEN) n left (t .size) z) (ap some (append-nil (rowsMeant (tableAt x WORKED))))));
           }
 
-      -- where what all rows give is nothing
-      pub turning-failed : eachOr (workedRow es mask) (rowsMeant (tableAt x0 CHOSEN)) ≡ none → WorkedOut xs x es mask false
-      unfolding allWorked whole
-      turning-failed z =
-          record {
-            works = turning-works;
-            rows = sym (whole-each es mask (rowsMeant (tableAt xs CHOSEN)) ∙ rw (← chosen-kept) z);
-          }
+    -- where what all rows give is nothing
+    pub turning-failed : {y : List ℕ} → Works x0 y → eachOr (workedRow es mask) (rowsMeant (tableAt x0 CHOSEN)) ≡ none
+        → WorkedOut xs y es mask false
+    unfolding allWorked whole
+    turning-failed w z =
+        record {
+          works = record { frame = frame-trans (h .frame) (w .frame); stands = w .stands };
+          rows = sym (whole-each es mask (rowsMeant (tableAt xs CHOSEN)) ∙ rw (← chosen-kept) z);
+        }
 
 module _ {x0 x : List ℕ} {es : List Expression} {mask n left : ℕ} (t : Turning x0 x es mask n left) where
   table-kept : tableAt x CHOSEN ≡ tableAt x0 CHOSEN
@@ -153,35 +168,73 @@ module _ {x0 x : List ℕ} {es : List Expression} {mask n left : ℕ} (t : Turni
   turning-sized = t .size ∙ ap length (sym table-kept) ∙ table-length x CHOSEN
 
   pub turning-room : 0 < left → word32At x WORKED < ROWS
-  turning-room more = omega (arith, t .few, table-length x WORKED, turning-sized, turning-stands .size)
+  turning-room more = omega (arith, t .sofar, table-length x WORKED, turning-sized, turning-stands .size)
 
-  module _ (more : 0 < left) {e : Slot} (is : e ≡ getD (tableAt x CHOSEN) (n - left) blank) where
-    rest : drop (n - left) (tableAt x0 CHOSEN) ≡ e ∷ drop (n - (left - 1)) (tableAt x0 CHOSEN)
-    rest =
-        rest-more (tableAt x0 CHOSEN) n left (t .size) blank (t .low) more
-        ∙ rw (is, table-kept)
+  -- chosen row n - left, pushed
+  module _ (more : 0 < left) {y : List ℕ}
+      (p : Holds WORKED ROWS x y (tableAt x WORKED ++ (getD (tableAt x CHOSEN) (n - left) blank ∷ []))) where
+    here : length (tableAt x WORKED) ≡ n - left
+    here = omega (arith, t .sofar)
 
-    -- a row that was worked out and pushed
-    pub turning-more : {y : List ℕ} (row : Slot) → some (rowMeant row) ≡ workedRow es mask (rowMeant e)
-        → Holds WORKED ROWS x y (tableAt x WORKED ++ (row ∷ [])) → Turning x0 y es mask n (left - 1)
-    unfolding rowsMeant
-    turning-more {y} row q p =
+    y-kept : tableAt y CHOSEN ≡ tableAt x CHOSEN
+    unfolding tableBytes
+    y-kept = table-kept-below (p .frame) CHOSEN ROWS turning-stands (omega arith)
+
+    y-sized : word32At y WORKED ≡ n - left + 1
+    y-sized = holds-size WORKED ROWS p ∙ simp length-append (omega (arith, here))
+
+    pub turning-ready : Ready y (n - left)
+    unfolding tableBytes
+    turning-ready =
         record {
-          chosen = t .chosen;
-          size = t .size;
-          low = omega (arith, t .low);
-          frame = frame-trans (t .frame) (p .frame);
-          stands = p .stands;
-          few = rw (p .list) (simp length-append (omega (arith, t .few)));
-          list =
-              let m = eachOr (workedRow es mask) (rowsMeant (drop (n - (left - 1)) (tableAt x0 CHOSEN))) in
-              t .list
-              ∙ rw (rest, p .list, ← q)
-              (following-more (rowsMeant (tableAt x WORKED)) (rowMeant row) m
-              ∙ ap (λ (l : List Row). following l m) (sym (rows-pushed (tableAt x WORKED) row)));
+          chosen = stands-kept-below (p .frame) CHOSEN ROWS turning-stands (omega arith);
+          worked = p .stands;
+          below = omega (arith, t .low, turning-sized, table-length x CHOSEN, ap length y-kept, table-length y CHOSEN);
+          within = omega (arith, y-sized);
+          same =
+              rw (y-kept, p .list, ← here)
+              (getD-append-seam (tableAt x WORKED) (getD (tableAt x CHOSEN) (length (tableAt x WORKED)) blank) [] blank);
         }
 
-    -- a sum that leaves 32 bits
-    pub turning-out : none ≡ workedRow es mask (rowMeant e) → eachOr (workedRow es mask) (rowsMeant (tableAt x0 CHOSEN)) ≡ none
-    unfolding rowsMeant following
-    turning-out q = t .list ∙ rw (rest, ← q)
+    rest : drop (n - left) (tableAt x0 CHOSEN) ≡ getD (tableAt y CHOSEN) (n - left) blank ∷ drop (n - (left - 1)) (tableAt x0 CHOSEN)
+    rest = rest-more (tableAt x0 CHOSEN) n left (t .size) blank (t .low) more ∙ rw (y-kept, table-kept)
+
+    module _ {z : List ℕ} {r : Bool} (w : RowWorked y z es mask (n - left) r) where
+      abbrev new : Slot
+      new = getD (tableAt z WORKED) (n - left) blank
+
+      z-list : tableAt z WORKED ≡ tableAt x WORKED ++ (new ∷ [])
+      z-list =
+          w .others
+          ∙ rw (p .list) (set-at (tableAt x WORKED) (getD (tableAt x CHOSEN) (n - left) blank) [] new (n - left) here)
+
+      pub turning-works : Works x0 z
+      turning-works =
+          record { frame = frame-trans (t .frame) (frame-trans (p .frame) (w .works .frame)); stands = w .works .stands }
+
+      -- and worked out
+      pub turning-more : r ≡ true → Turning x0 z es mask n (left - 1)
+      unfolding rowsMeant
+      turning-more e =
+          let is : some (rowMeant new) ≡ workedRow es mask (rowMeant (getD (tableAt y CHOSEN) (n - left) blank)) = rw e at (w .row) in
+          record {
+            chosen = t .chosen;
+            size = t .size;
+            low = omega (arith, t .low);
+            frame = turning-works .frame;
+            stands = w .works .stands;
+            sofar = rw z-list (simp length-append (omega (arith, t .sofar)));
+            list =
+                let m = eachOr (workedRow es mask) (rowsMeant (drop (n - (left - 1)) (tableAt x0 CHOSEN))) in
+                t .list
+                ∙ rw (rest, ← is)
+                (following-more (rowsMeant (tableAt x WORKED)) (rowMeant new) m
+                ∙ ap (λ (l : List Row). following l m) (sym (ap rowsMeant z-list ∙ rows-pushed (tableAt x WORKED) new)));
+          }
+
+      -- a sum that leaves 32 bits
+      pub turning-out : r ≡ false → eachOr (workedRow es mask) (rowsMeant (tableAt x0 CHOSEN)) ≡ none
+      unfolding rowsMeant following
+      turning-out e =
+          let is : none ≡ workedRow es mask (rowMeant (getD (tableAt y CHOSEN) (n - left) blank)) = rw e at (w .row) in
+          t .list ∙ rw (rest, ← is)

@@ -3,31 +3,20 @@ use mathlib.Core.Path.{_≡_}
 use mathlib.Core.Bool.{Bool, true, false}
 use mathlib.Core.List.{List, [], _∷_, map}
 use mathlib.Core.Option.{Option, none, some}
-use Prim.Native.Nat.{ℕ, _+_}
+use Prim.Native.Nat.{ℕ, _+_, _<_}
 use lib.IntN.{ℤ}
-use lib.ListN.{set}
-use Rattle.meaning.specs.Base.{maybe, eachOr}
+use lib.ListN.{getD, set}
+use Rattle.meaning.specs.Base.{if_then_else_, maybe, eachOr}
 use Rattle.meaning.specs.Covers.{Row, Expression}
 use Rattle.meaning.specs.Processing.Queries.{workOutAll}
 use Rattle.meaning.specs.Processing.Actions.{updatedRow}
-use Rattle.slots.specs.declared.Slot.{Slot}
-use Rattle.slots.specs.Slots.{tableAt, tableBytes, Frame, Stands}
+use Rattle.words.specs.Words.{word32At}
+use Rattle.slots.specs.Slots.{tableAt, tableBytes, blank, Frame, Stands}
 use Rattle.room.specs.Room.{WORKED, CHOSEN, ROWS, rowMeant, rowsMeant, rowsWith}
-use Rattle.working.specs.declared.RowWorked.{RowWorked}
-use Rattle.working.specs.declared.RowWorked.the-variants.{Is, Out}
 
 -- a row with a value in a column
 unfoldable pub withCell : Row → ℕ → ℤ → Row
 withCell r c v = record { handle = r .handle; table = r .table; values = set (r .values) c v }
-
--- a row with what was worked out in a column, unless a sum left 32 bits
-unfoldable pub withWorked : Row → ℕ → Option ℤ → Option Row
-withWorked r c none = none
-withWorked r c (some v) = some (withCell r c v)
-
-unfoldable pub workedMeant : RowWorked → Option Row
-workedMeant (Is e) = some (rowMeant e)
-workedMeant Out = none
 
 -- a row with the values of expressions over it for the columns of a mask, unless a sum leaves 32 bits
 unfoldable pub workedRow : List Expression → ℕ → Row → Option Row
@@ -42,6 +31,21 @@ allWorked false rows = none
 pub record Works (xs ys : List ℕ) : Type 0 where
   pub frame : Frame WORKED (WORKED + tableBytes ROWS) xs ys
   pub stands : Stands WORKED ROWS ys
+
+-- worked row i is chosen row i so far
+pub record Ready (xs : List ℕ) (i : ℕ) : Type 0 where
+  pub chosen : Stands CHOSEN ROWS xs
+  pub worked : Stands WORKED ROWS xs
+  pub below : i < word32At xs CHOSEN
+  pub within : i < word32At xs WORKED
+  pub same : getD (tableAt xs WORKED) i blank ≡ getD (tableAt xs CHOSEN) i blank
+
+-- the expressions were worked out over chosen row i, for worked row i alone; what that is where a sum left 32 bits is left open
+pub record RowWorked (xs ys : List ℕ) (es : List Expression) (mask i : ℕ) (r : Bool) : Type 0 where
+  pub works : Works xs ys
+  pub others : tableAt ys WORKED ≡ set (tableAt xs WORKED) i (getD (tableAt ys WORKED) i blank)
+  pub row : (if r then some (rowMeant (getD (tableAt ys WORKED) i blank)) else none)
+      ≡ workedRow es mask (rowMeant (getD (tableAt xs CHOSEN) i blank))
 
 -- the expressions were worked out over every chosen row
 pub record WorkedOut (xs ys : List ℕ) (es : List Expression) (mask : ℕ) (r : Bool) : Type 0 where

@@ -1,30 +1,26 @@
 // What is worked out for rows before one changes: the values of expressions over the chosen rows, and
 // values that stand in the log or the book.
 ghost use mathlib.Core.Path.{_≡_};
-ghost use Prim.Native.Nat.{_≤_};
+ghost use Prim.Native.Nat.{_≤_, _<_};
 ghost use lib.Count.{ones};
+ghost use lib.ListN.{getD};
 ghost use Rattle.meaning.specs.Reading.{many};
 ghost use Rattle.meaning.specs.Values.{signed};
 ghost use Rattle.meaning.specs.ByteLayouts.{value, expression};
 ghost use Rattle.meaning.specs.Processing.Queries as Queries;
 ghost use Rattle.meaning.specs.Processing.Actions.{updatedRow};
-ghost use Rattle.words.specs.Words.{endOf, readable, sumMeant};
+ghost use Rattle.words.specs.Words.{word32At, endOf, readable, sumMeant};
 ghost use Rattle.words.specs.declared.End.the-variants.{Short};
 ghost use Rattle.fields.specs.Fields.{valuesAt};
+ghost use Rattle.slots.specs.Slots.{tableAt, Stands};
 ghost use Rattle.slots.specs.Slots as Slots;
 ghost use Rattle.terms.specs.Terms.{expressionMeant};
-ghost use Rattle.room.specs.Room.{Laid, rowMeant};
-ghost use Rattle.working.specs.Working.{withCell, withWorked, workedMeant, workedRow, WorkedOut, WorkedValues};
+ghost use Rattle.room.specs.Room.{CHOSEN, ROWS, Laid, rowMeant};
+ghost use Rattle.working.specs.Working.{withCell, Ready, RowWorked, WorkedOut, WorkedValues};
 use slots::Slot;
 use terms::Expression;
 use terms::ExpressionRead;
 use words::Sum;
-
-// A row worked out, or that a sum leaves 32 bits.
-pub enum RowWorked {
-    Is(Slot),
-    Out,
-}
 
 fn blank() -> Slot
     ensures { λ r. ⌜ r ≡ Slots.blank ⌝ }
@@ -109,55 +105,56 @@ pub fn with_values(s: &[u8], at: usize, mask: usize, e: Slot) -> Slot
     row
 }
 
-// The value of an expression over a row, unless its sum leaves 32 bits.
-fn work_out(x: Expression, e: Slot) -> Sum
-    ensures { λ r. ⌜ sumMeant r ≡ Queries.workOut (rowMeant e) (expressionMeant x) ⌝ }
+// The value of an expression over chosen row i, unless its sum leaves 32 bits.
+fn work_out(room: &[u8], x: Expression, i: usize) -> Sum
+    requires { ⌜ Stands CHOSEN ROWS (now room) ⌝ }
+    requires { ⌜ i < word32At (now room) CHOSEN ⌝ }
+    ensures { λ r. ⌜ sumMeant r
+        ≡ Queries.workOut (rowMeant (getD (tableAt (now (room .entry)) CHOSEN) i Slots.blank)) (expressionMeant x) ⌝ }
 {
     match x {
         Expression::Constant(v) => Sum::Is(v),
-        Expression::Column(column) => Sum::Is(query::cell(e, column)),
-        Expression::Sum { column, constant } => words::plus(query::cell(e, column), constant),
+        Expression::Column(column) => {
+            Sum::Is(slots::value_at(room, room::CHOSEN, room::ROWS, i, column))
+        }
+        Expression::Sum { column, constant } => {
+            words::plus(
+                slots::value_at(room, room::CHOSEN, room::ROWS, i, column),
+                constant,
+            )
+        }
     }
 }
 
-// A row with the value of an expression over the old row in a column.
-fn fill(row: Slot, column: usize, x: Expression, old: Slot) -> RowWorked
-    ensures { λ r. ⌜ workedMeant r ≡ withWorked (rowMeant row) column (Queries.workOut (rowMeant old) (expressionMeant x)) ⌝ }
-{
-    match work_out(x, old) {
-        Sum::Is(v) => RowWorked::Is(with_cell(row, column, v)),
-        Sum::Out => RowWorked::Out,
-    }
-}
-
-// A row with the value of an expression for each set bit of a mask, lowest first, over the old row.
-fn work_out_row(book: &[u8], at: usize, mask: usize, e: Slot) -> RowWorked
+// Worked row i, which is chosen row i so far, gets the value of an expression over the chosen row for
+// each set bit of a mask, lowest first; false if a sum leaves 32 bits.
+fn work_out_row(room: &mut [u8], book: &[u8], at: usize, mask: usize, i: usize) -> bool
+    requires { ⌜ Ready (now room) i ⌝ }
     requires { ⌜ mask ≤ 15 ⌝ }
-    ensures { λ r. ⌜ workedMeant r ≡ workedRow (readable (ones mask) expression (now (book .entry)) at) mask (rowMeant e) ⌝ }
+    ensures { λ r. ⌜ RowWorked (now (room .entry)) (now (room .exit)) (readable (ones mask) expression (now (book .entry)) at) mask i r ⌝ }
 {
-    let mut row = e;
     let mut here = at;
     let mut c: usize = 0;
     while c < 4 {
         if words::has_bit(mask, c) {
             match terms::expression_at(book, here) {
-                ExpressionRead::Is { expression, next } => match fill(row, c, expression, e) {
-                    RowWorked::Is(filled) => {
-                        row = filled;
+                ExpressionRead::Is { expression, next } => match work_out(room, expression, i) {
+                    Sum::Is(v) => {
+                        slots::put_value(room, room::WORKED, room::ROWS, i, c, v);
                         here = next;
                     }
-                    RowWorked::Out => {
-                        return RowWorked::Out;
+                    Sum::Out => {
+                        return false;
                     }
                 },
                 ExpressionRead::Bad => {
-                    return RowWorked::Is(row);
+                    return true;
                 }
             }
         }
         c += 1;
     }
-    RowWorked::Is(row)
+    true
 }
 
 // Works out the expressions over every chosen row; false if a sum leaves 32 bits.
@@ -170,12 +167,16 @@ pub fn work_out_all(room: &mut [u8], book: &[u8], at: usize, mask: usize) -> boo
     let n = slots::size(room, room::CHOSEN);
     let mut left = n;
     while 0 < left {
-        let e = slots::slot_at(room, room::CHOSEN, room::ROWS, n - left);
-        match work_out_row(book, at, mask, e) {
-            RowWorked::Is(row) => slots::push(room, room::WORKED, room::ROWS, row),
-            RowWorked::Out => {
-                return false;
-            }
+        slots::push_from(
+            room,
+            room::WORKED,
+            room::ROWS,
+            room::CHOSEN,
+            room::ROWS,
+            n - left,
+        );
+        if !work_out_row(room, book, at, mask, n - left) {
+            return false;
         }
         left -= 1;
     }

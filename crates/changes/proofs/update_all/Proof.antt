@@ -8,10 +8,10 @@ use Rattle.changes.proofs.update_all.Statement.{statement}
 use Rattle.changes.proofs.update_all.Tie as tie
 
 abbrev Inv-loop : tie.InvT-loop
-Inv-loop room₀ active mask n left₀ room left = Updating room₀ room active mask n left
+Inv-loop room₀ tables mask n left₀ room left = Updating room₀ room tables mask n left
 
 abbrev μ-loop : tie.MeasureT-loop
-μ-loop room₀ active mask n left₀ room left = left
+μ-loop room₀ tables mask n left₀ room left = left
 
 size-requires : tie.Need-size-requires Inv-loop μ-loop
 size-requires c κs = omega (arith, c .before .before .pre .0 .represents .laid .long)
@@ -33,6 +33,9 @@ slot-at-requires c κs =
       updating-running (pre .0) (pre .1 .0) (pre .1 .1 .1) q inv .represents .laid .worked,
       updating-within (pre .0) (pre .1 .0) (pre .1 .1 .1) q inv (turn .loop-test .taken),
     )
+
+sub-update-row : tie.Need-sub-update-row Inv-loop μ-loop
+sub-update-row c = c .before .before .before .before .loop .inv .few
 
 update-row-requires : tie.Need-update-row-requires Inv-loop μ-loop
 update-row-requires c κs =
@@ -73,5 +76,5 @@ returns c =
 pub update-all-spec : {M : Type 1} → statement M
 update-all-spec =
     tie.close
-    (tie.spec Inv-loop μ-loop size-requires loop-holds sub-slot-at slot-at-requires (λ c κs. tt) update-row-requires (λ c. omega arith)
-    (λ c. omega arith) loop-again (λ c. c .before .loop .inv .taking .moves .beyond .len) returns)
+    (tie.spec Inv-loop μ-loop size-requires loop-holds sub-slot-at slot-at-requires sub-update-row (λ c κs. tt) update-row-requires
+    (λ c. omega arith) (λ c. omega arith) loop-again (λ c. c .before .loop .inv .taking .moves .beyond .len) returns)

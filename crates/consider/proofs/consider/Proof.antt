@@ -16,7 +16,7 @@ draw-requires c κs =
     let start = c .before .before .before .before .before .before .before .before .before .before .before .before in
     let run = start .pre .0 in
     let low : start .args .k < 16 = omega (arith, start .pre .1 .0) in
-    let few = draw-few (run .reached) (run .represents) _ low (start .pre .1 .1 .1) _ in
+    let few = draw-few (run .reached) (run .represents) _ low _ in
     (run .represents .laid, (low, (live-sorted (run .reached) (run .represents), few)))
 
 run-actions-requires : tie.Need-run-actions-requires

@@ -1,10 +1,17 @@
--- `plan::outline_at` meets its contract: what the decoder read is the rule, and its head is that rule's.
+-- `plan::outline_at` meets its contract: what the decoder read is the rule, whose head is that rule's and whose table is at most 3.
 use borrow.Author.Needs.{needs}
 use denote.Ref.{now}
-use Rattle.book.specs.Books.{ruleOr}
-use Rattle.plan.proofs.Planning.{outlined}
+use Rattle.book.specs.Books.{ruleOr, ruleMeant, ruleOf}
+use Rattle.plan.proofs.Fits.{table-fits}
+use Rattle.plan.proofs.Planning.{rule-read, outlined}
 use Rattle.plan.proofs.outline_at.Statement.{statement}
 use Rattle.plan.proofs.outline_at.Tie as tie
+
+outline-of-requires : tie.Need-outline-of-requires
+unfolding ruleMeant ruleOf
+outline-of-requires c κs =
+    let s = now (c .before .before .before .before .before .args .s) in
+    table-fits _ s _ (rule-read s (c .before .before .before .rule-at .ensures) (c .before .rule .given .1))
 
 returns : tie.Need-returns
 returns c =
@@ -18,4 +25,4 @@ returns-2 c = rw (← c .before .before .rule-at .ensures, c .enum-told .given .
 pub outline-at-spec : {M : Type 1} → statement M
 outline-at-spec =
     tie.close
-    (tie.spec (λ c κs. search needs) (λ c. search needs) (λ c κs. search needs) (λ c. search needs) returns returns-2)
+    (tie.spec (λ c κs. search needs) (λ c. search needs) outline-of-requires (λ c. search needs) returns returns-2)

@@ -9,21 +9,21 @@ use Rattle.rows.proofs.update_row.Tie as tie
 returns : tie.Need-returns
 returns c =
     let none = c .enum-told .given .1 in
-    rw (sym (c .before .before .find .ensures) ∙ none) refl
+    rw (sym (c .before .before .find-near .ensures) ∙ none) refl
 
 slot-at-requires : tie.Need-slot-at-requires
 slot-at-requires c κs =
     let at = c .before .before in
     let asked = at .before .before in
     let start = asked .before .before .before in
-    (start .pre .0 .live, found-within (start .args .room .now) _ _ (asked .find .ensures) (at .found .given .1))
+    (start .pre .0 .live, found-within (start .args .room .now) _ _ (asked .find-near .ensures) (at .found .given .1))
 
 put-at-requires : tie.Need-put-at-requires
 put-at-requires c κs =
     let at = c .before .before .before .before in
     let asked = at .before .before in
     let start = asked .before .before .before in
-    (start .pre .0 .live, found-within (start .args .room .now) _ _ (asked .find .ensures) (at .found .given .1))
+    (start .pre .0 .live, found-within (start .args .room .now) _ _ (asked .find-near .ensures) (at .found .given .1))
 
 join-all-requires : tie.Need-join-all-requires
 join-all-requires c κs =
@@ -32,7 +32,7 @@ join-all-requires c κs =
     let at = read .before .before .before in
     let asked = at .before .before in
     let start = asked .before .before .before in
-    found-joinable (start .args .room .now) _ _ (asked .find .ensures) (at .found .given .1) 3 _ (held .put-at .ensures)
+    found-joinable (start .args .room .now) _ _ (asked .find-near .ensures) (at .found .given .1) 3 _ (held .put-at .ensures)
     (read .slot-at .ensures) (c .as-effect .ensures) (start .pre .1 .1)
 
 returns-2 : tie.Need-returns-2
@@ -45,8 +45,8 @@ returns-2 c =
     let asked = at .before .before in
     let start = asked .before .before .before in
     let room = start .args .room .now in
-    found-updated room _ _ (asked .find .ensures) (at .found .given .1) _ (start .args .new)
-    (found-turned room _ _ (asked .find .ensures) (at .found .given .1) 3 _ (held .put-at .ensures)
+    found-updated room _ _ (asked .find-near .ensures) (at .found .given .1) _ (start .args .new)
+    (found-turned room _ _ (asked .find-near .ensures) (at .found .given .1) 3 _ (held .put-at .ensures)
     (read .slot-at .ensures) (told .as-effect .ensures) (start .pre .0) (joined .join-all .ensures))
 
 pub update-row-spec : {M : Type 1} → statement M

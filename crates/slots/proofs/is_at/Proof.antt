@@ -1,6 +1,4 @@
 -- `slots::is_at` meets its contract: the handle stands in the first word of the slot at the place.
-use mathlib.Core.Path.{sym}
-use borrow.Author.Needs.{needs}
 use borrow.Author.Tests.{lt-ltb, le-ltb}
 use native.Mathlib.Omega.{arith}
 use Prim.Native.Nat.{_≤_, _<_}

@@ -3,15 +3,15 @@
 use native.Mathlib.Omega.{arith}
 use Rattle.slots.specs.Slots.{tableBytes}
 use Rattle.room.specs.Room.{watchRule}
-use Rattle.transition.proofs.Drawing.{Drawing, draw-start, draw-live, draw-wait, draw-size, draw-ready, draw-step, draw-done}
+use Rattle.transition.proofs.Drawing.{Drawing, draw-start, draw-live, draw-wait, draw-within, draw-ready, draw-step, draw-done}
 use Rattle.transition.proofs.draw.Statement.{statement}
 use Rattle.transition.proofs.draw.Tie as tie
 
 abbrev Inv-loop : tie.InvT-loop
-Inv-loop room₀ k rule base n left₀ room left = Drawing (watchRule rule) k room₀ room n left
+Inv-loop room₀ k rule base n left₀ near₀ room left near = Drawing (watchRule rule) k room₀ room n left
 
 abbrev μ-loop : tie.MeasureT-loop
-μ-loop room₀ k rule base n left₀ room left = left
+μ-loop room₀ k rule base n left₀ near₀ room left near = left
 
 empty-tables-requires : tie.Need-empty-tables-requires Inv-loop μ-loop
 empty-tables-requires c κs = omega arith
@@ -25,28 +25,21 @@ loop-holds c =
     let pre = tables .before .before .before .pre in
     draw-start _ _ (pre .0) (pre .1 .0) (pre .1 .1 .0) (pre .1 .1 .1) (tables .empty-tables .ensures) (c .size .ensures)
 
-sub-slot-at : tie.Need-sub-slot-at Inv-loop μ-loop
-sub-slot-at c = omega (arith, c .before .before .loop .inv .most)
-
-slot-at-requires : tie.Need-slot-at-requires Inv-loop μ-loop
-slot-at-requires c κs =
-    let at-loop = c .before .before in
-    (draw-wait _ _ _ (at-loop .loop .inv), omega (arith, at-loop .loop .inv .most, draw-size _ _ _ (at-loop .loop .inv)))
+sub-draw-one : tie.Need-sub-draw-one Inv-loop μ-loop
+sub-draw-one c = omega (arith, c .before .before .loop .inv .most)
 
 draw-one-requires : tie.Need-draw-one-requires Inv-loop μ-loop
 draw-one-requires c κs =
-    let slot = c .before in
-    let turn = slot .before .before in
-    let at-loop = turn .before in
-    (draw-live _ _ _ (at-loop .loop .inv), draw-ready _ _ _ (at-loop .loop .inv) (turn .loop-test .taken) (slot .slot-at .ensures))
+    let turn = c .before in
+    let inv = turn .before .loop .inv in
+    let more = turn .loop-test .taken in
+    (draw-wait _ _ _ inv, (draw-within _ _ _ inv more, (draw-live _ _ _ inv, draw-ready _ _ _ inv more)))
 
 loop-again : tie.Need-loop-again Inv-loop μ-loop
 loop-again c =
     let one = c .before .before in
-    let slot = one .before .before in
-    let turn = slot .before .before in
-    let at-loop = turn .before in
-    draw-step _ _ _ (at-loop .loop .inv) (turn .loop-test .taken) (slot .slot-at .ensures) (one .draw-one .ensures)
+    let turn = one .before .before in
+    draw-step _ _ _ (turn .before .loop .inv) (turn .loop-test .taken) (one .draw-one .ensures)
 
 empty-requires : tie.Need-empty-requires Inv-loop μ-loop
 unfolding tableBytes
@@ -66,5 +59,5 @@ draw-spec =
     tie.close
     (tie.spec Inv-loop μ-loop
     empty-tables-requires (λ c. omega arith) (λ c. omega arith) size-requires loop-holds
-    sub-slot-at slot-at-requires draw-one-requires (λ c. omega arith) (λ c. omega arith) loop-again
+    sub-draw-one draw-one-requires (λ c. omega arith) (λ c. omega arith) loop-again
     empty-requires (λ c. returns c .before .len) returns)

@@ -1,6 +1,5 @@
 -- `trigger::is_triggered` meets its contract: an inactive rule is not triggered; the head of an active one is read, and says what wakes it.
 use borrow.Author.Needs.{needs}
-use borrow.Author.Tests.{not-true, not-false}
 use native.Mathlib.Omega.{arith}
 use Rattle.trigger.proofs.Woken.{not-active, can-read, read-and-woken}
 use Rattle.trigger.proofs.is_triggered.Statement.{statement}
@@ -9,7 +8,7 @@ use Rattle.trigger.proofs.is_triggered.Tie as tie
 returns : tie.Need-returns
 returns c =
     let start = c .before .before .before .before in
-    not-active _ _ (start .pre .1 .1 .placed _ (start .pre .1 .0 .1)) (not-true _ (c .if1 .taken))
+    not-active _ _ (start .pre .1 .1 .placed _ (start .pre .1 .0 .1)) (c .if1 .taken)
 
 returns-2 : tie.Need-returns-2
 returns-2 c =
@@ -18,7 +17,7 @@ returns-2 c =
     let read = stood .before .before in
     let on = read .before .before in
     let start = on .before .before .before .before in
-    read-and-woken _ _ (start .pre .1 .1 .placed _ (start .pre .1 .0 .1)) _ (omega (arith, start .pre .1 .0)) (not-false _ (on .if1 .left))
+    read-and-woken _ _ (start .pre .1 .1 .placed _ (start .pre .1 .0 .1)) _ (omega (arith, start .pre .1 .0)) (on .if1 .left)
     (read .head-at .ensures .0) (stood .head .given .1) (looked .watch .ensures) (c .triggered .ensures)
 
 returns-3 : tie.Need-returns-3

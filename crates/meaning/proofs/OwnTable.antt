@@ -1,0 +1,293 @@
+-- What a net effect says of one table. A handle never changes its table while operations fit, so an operation joins what is said of its
+-- own table and leaves what is said of another; and of other tables a rule is not woken, nor does it draw a row.
+use mathlib.Core.Path.{_≡_, refl, sym, ap, _∙_}
+use mathlib.Core.Logic.{_≢_}
+use mathlib.Core.Bool.{Bool, true, false, _&&_}
+use mathlib.Core.List.{List, [], _∷_, _++_}
+use mathlib.Core.Option.{Option, none, some}
+use Prim.Native.Nat.{ℕ, suc, _≤_, _<_}
+use native.Mathlib.Omega.{arith}
+use lib.Dec.{eqb, ltb}
+use lib.ListN.{length}
+use borrow.Author.Tests.{eqb-true, eqb-false, ne-eqb, ltb-true, ltb-false, le-ltb}
+use Rattle.meaning.specs.Base.{if_then_else_, bit, any, select, before, gather}
+use Rattle.meaning.specs.Covers.{Row, Rule, Image}
+use Rattle.meaning.specs.RowOperations.{RowOperation, inserts, deletes, updates, handleOf, rowAt, makeAll, Effect, nothing}
+use Rattle.meaning.specs.RowOperations.{inserted, deleted, updated, NetEffect, join, effectOf, net, named, entry, entries, netEffect, effectAt}
+use Rattle.meaning.specs.Processing.TransitionTables.{ownTable, meets, wakes, ownRow, deletedRow, oldRow, liveRow}
+use Rattle.meaning.specs.Processing.TransitionTables.{insertedRow, newRow, transition}
+use Rattle.meaning.specs.Trace.{Differs, stays, comes, goes, changes}
+use Rattle.meaning.proofs.Lists.{Each, noElement, anElement, eqb-self}
+use Rattle.meaning.proofs.Made.{Sound, Made}
+use Rattle.meaning.proofs.NetEffects.{joinInto, joinOperation, Listed, noEntry, oneEntry, single-own, net-more, netEffect-more}
+use Rattle.meaning.proofs.NetEffects.{says-net, netEffect-listed}
+use Rattle.meaning.proofs.Lives.{OfTable, tableOf, one-table, differs}
+
+-- an effect is on a table
+unfoldable pub onTable : ℕ → Effect → Bool
+onTable t nothing = false
+onTable t (inserted u) = eqb u t
+onTable t (deleted r) = eqb (r .table) t
+onTable t (updated m r) = eqb (r .table) t
+
+-- what a net effect says of the rows of a table
+unfoldable pub ownOf : ℕ → NetEffect → NetEffect
+ownOf t es = select (λ p. onTable t (p .1)) es
+
+-- ---- Its shape
+
+pub own-none : (t : ℕ) → ownOf t [] ≡ []
+unfolding ownOf
+own-none t = refl
+
+pub own-few : (t : ℕ) (es : NetEffect) → length (ownOf t es) ≤ length es
+unfolding ownOf
+own-few t [] = omega arith
+own-few t (p ∷ ps) = go (onTable t (p .1)) refl (own-few t ps)
+  where
+    go : (b : Bool) → onTable t (p .1) ≡ b → length (ownOf t ps) ≤ length ps → length (ownOf t (p ∷ ps)) ≤ length (p ∷ ps)
+    go true e ih = rw e (omega arith)
+    go false e ih = rw e (omega arith)
+
+own-above : {low low′ : ℕ} (t : ℕ) {es : NetEffect} → low′ ≤ low → Listed low es → Listed low′ (ownOf t es)
+unfolding ownOf
+own-above t l noEntry = noEntry
+own-above {low′ = low′} t l (oneEntry {p = p} {ps = ps} a b c) =
+    go (onTable t (p .1)) refl (own-above t (omega arith) c) (own-above t (omega arith) c)
+  where
+    go : (d : Bool) → onTable t (p .1) ≡ d → Listed (suc (p .0)) (ownOf t ps) → Listed low′ (ownOf t ps) → Listed low′ (ownOf t (p ∷ ps))
+    go true e ih jh = let d : low′ ≤ p .0 = omega arith in rw e (oneEntry {p = p} d b ih)
+    go false e ih jh = rw e jh
+
+pub own-listed : {low : ℕ} (t : ℕ) {es : NetEffect} → Listed low es → Listed low (ownOf t es)
+own-listed t l = own-above t (omega arith) l
+
+-- ---- One operation more
+
+-- an effect in front
+own-entry : (t k u : ℕ) (e : Effect) (es : NetEffect) → OfTable u e
+    → ownOf t (entry k e es) ≡ (if eqb u t then entry k e (ownOf t es) else ownOf t es)
+unfolding onTable ownOf entry
+own-entry t k u nothing es o = go (eqb u t)
+  where
+    go : (b : Bool) → ownOf t es ≡ (if b then ownOf t es else ownOf t es)
+    go true = refl
+    go false = refl
+own-entry t k u (inserted x) es o = rw o
+own-entry t k u (deleted r) es o = rw o
+own-entry t k u (updated m r) es o = rw o
+
+-- what is of a table, and is something, is on it
+on-table : (t u : ℕ) (e : Effect) → OfTable u e → e ≢ nothing → onTable t e ≡ eqb u t
+unfolding onTable
+on-table t u nothing o n = absurd (n refl)
+on-table t u (inserted x) o n = rw o
+on-table t u (deleted r) o n = rw o
+on-table t u (updated m r) o n = rw o
+
+-- an effect on a handle below all others comes in front
+join-below : {low : ℕ} {es : NetEffect} (k : ℕ) (e : Effect) → k < low → Listed low es → joinInto k e es ≡ entry k e es
+unfolding joinInto
+join-below k e l noEntry = refl
+join-below k e l (oneEntry {p = p} a b c) = rw (le-ltb (p .0) k (omega arith), ne-eqb (p .0) k (λ q. omega arith))
+
+module _ (t k u : ℕ) (e : Effect) (of : OfTable u e) where
+  -- the effect joined what is said of the table, if it is on it
+  abbrev Joined : NetEffect → NetEffect → Type 0
+  Joined es now = ownOf t now ≡ (if eqb u t then joinInto k e (ownOf t es) else ownOf t es)
+
+  own-join : {low : ℕ} {es : NetEffect} → Listed low es → OfTable u (effectAt k es) → OfTable u (join (effectAt k es) e)
+      → Joined es (joinInto k e es)
+  unfolding ownOf joinInto effectAt
+  own-join noEntry f g = own-entry t k u e [] of
+  own-join {low} (oneEntry {p = p} {ps = ps} a b c) f g = go (ltb (p .0) k) refl (eqb (p .0) k) refl (own-join c)
+    where
+      past : (d : Bool) → onTable t (p .1) ≡ d → (v : Bool) → eqb u t ≡ v → ltb (p .0) k ≡ true → Joined ps (joinInto k e ps)
+          → Joined (p ∷ ps) (p ∷ joinInto k e ps)
+      past true q true w l ih = rw (q, w, l) (ap (λ (x : NetEffect). p ∷ x) (rw w at ih))
+      past true q false w l ih = rw (q, w) (ap (λ (x : NetEffect). p ∷ x) (rw w at ih))
+      past false q v w l ih = rw q ih
+
+      at-k : (v : Bool) → eqb u t ≡ v → p .0 ≡ k → OfTable u (p .1) → OfTable u (join (p .1) e)
+          → Joined (p ∷ ps) (entry k (join (p .1) e) ps)
+      at-k true w s f g =
+          own-entry t k u (join (p .1) e) ps g ∙ rw (w, on-table t u (p .1) f b, w, s, le-ltb k k (omega arith), eqb-self k)
+      at-k false w s f g = own-entry t k u (join (p .1) e) ps g ∙ rw (w, on-table t u (p .1) f b, w)
+
+      front : k < p .0 → Joined (p ∷ ps) (entry k e (p ∷ ps))
+      front l =
+          let z : suc k ≤ p .0 = l in
+          let m : Listed (suc k) (p ∷ ps) = oneEntry {p = p} z b c in
+          own-entry t k u e (p ∷ ps) of ∙ rw (join-below k e (omega arith) (own-listed t m))
+
+      go : (d : Bool) → ltb (p .0) k ≡ d → (x : Bool) → eqb (p .0) k ≡ x
+          → (OfTable u (effectAt k ps) → OfTable u (join (effectAt k ps) e) → Joined ps (joinInto k e ps))
+          → Joined (p ∷ ps) (joinInto k e (p ∷ ps))
+      go true q x r ih =
+          let l = ltb-true (p .0) k q in
+          let n = ne-eqb (p .0) k (λ s. omega arith) in
+          rw q (past (onTable t (p .1)) refl (eqb u t) refl q (ih (rw n at f) (rw n at g)))
+      go false q true r ih = rw (q, r) (at-k (eqb u t) refl (eqb-true (p .0) k r) (rw r at f) (rw r at g))
+      go false q false r ih =
+          let l = ltb-false (p .0) k q in let n = eqb-false (p .0) k r in rw (q, r) (front (omega arith))
+
+-- an operation's effect is of its table
+effect-table : (o : RowOperation) → OfTable (tableOf o) (effectOf o)
+unfolding effectOf tableOf
+effect-table (inserts r) = refl
+effect-table (deletes r) = refl
+effect-table (updates m old new) = refl
+
+effect-on : (t : ℕ) (o : RowOperation) → onTable t (effectOf o) ≡ eqb (tableOf o) t
+unfolding onTable effectOf tableOf
+effect-on t (inserts r) = refl
+effect-on t (deletes r) = refl
+effect-on t (updates m old new) = refl
+
+net-own : (os : List RowOperation) (o : RowOperation) → net (handleOf o) (os ++ (o ∷ [])) ≡ join (net (handleOf o) os) (effectOf o)
+net-own os o = net-more (handleOf o) os o ∙ ap (join (net (handleOf o) os)) (single-own (handleOf o) o (eqb-self (handleOf o)))
+
+-- on the table it joins, on another nothing changes
+pub own-more : {m : Image} (t : ℕ) (os : List RowOperation) (o : RowOperation) → Sound m → Made m (os ++ (o ∷ []))
+    → ownOf t (netEffect (os ++ (o ∷ [])))
+    ≡ (if onTable t (effectOf o) then joinOperation o (ownOf t (netEffect os)) else ownOf t (netEffect os))
+unfolding joinOperation
+own-more t os o s k =
+    let h = handleOf o in
+    let one = one-table os o s k in
+    rw (netEffect-more os o, effect-on t o)
+    (own-join t h (tableOf o) (effectOf o) (effect-table o) (netEffect-listed os) (rw (says-net h os) (one .before))
+    (rw (says-net h os, ← net-own os o) (one .with-it)))
+
+-- ---- What wakes a rule
+
+and-none : (a b : Bool) → b ≡ false → a && b ≡ false
+and-none true b h = h
+and-none false b h = refl
+
+none-and : (a b : Bool) → a ≡ false → a && b ≡ false
+none-and a b h = rw h
+
+-- of other tables it is not woken
+wakes-own : (r : Rule) (e : Effect) → onTable (r .table) e ≡ false → wakes r e ≡ false
+unfolding onTable ownTable wakes
+wakes-own r nothing n = refl
+wakes-own r (inserted t) n = and-none (bit (r .triggers) 0) (ownTable r t) n
+wakes-own r (deleted x) n = and-none (bit (r .triggers) 1) (ownTable r (x .table)) n
+wakes-own r (updated m x) n =
+    none-and (bit (r .triggers) 2 && ownTable r (x .table)) (meets r m) (and-none (bit (r .triggers) 2) (ownTable r (x .table)) n)
+
+-- what wakes it is on its own table
+pub own-wakes : (r : Rule) (es : NetEffect) → any (λ p. wakes r (p .1)) (ownOf (r .table) es) ≡ any (λ p. wakes r (p .1)) es
+unfolding ownOf
+own-wakes r [] = refl
+own-wakes r (p ∷ ps) = go (onTable (r .table) (p .1)) refl (own-wakes r ps)
+  where
+    go : (b : Bool) → onTable (r .table) (p .1) ≡ b → any (λ p. wakes r (p .1)) (ownOf (r .table) ps) ≡ any (λ p. wakes r (p .1)) ps
+        → any (λ p. wakes r (p .1)) (ownOf (r .table) (p ∷ ps)) ≡ any (λ p. wakes r (p .1)) (p ∷ ps)
+    go true e ih = rw (e, ih)
+    go false e ih = rw (e, wakes-own r (p .1) e) ih
+
+-- ---- The rows that are drawn
+
+-- of a part no more rows are drawn than of all
+pub own-gather : (t : ℕ) (f : ℕ × Effect → Option Row) (es : NetEffect) → length (gather f (ownOf t es)) ≤ length (gather f es)
+unfolding ownOf
+own-gather t f [] = omega arith
+own-gather t f (p ∷ ps) = go (onTable t (p .1)) refl (f p) refl (own-gather t f ps)
+  where
+    go : (b : Bool) → onTable t (p .1) ≡ b → (o : Option Row) → f p ≡ o → length (gather f (ownOf t ps)) ≤ length (gather f ps)
+        → length (gather f (ownOf t (p ∷ ps))) ≤ length (gather f (p ∷ ps))
+    go true e none q ih = rw (e, q) ih
+    go true e (some r) q ih = rw (e, q) (omega arith)
+    go false e none q ih = rw (e, q) ih
+    go false e (some r) q ih = rw (e, q) (omega arith)
+
+-- where none is drawn of other tables, the same are drawn
+gather-own : (t : ℕ) (f : ℕ × Effect → Option Row) {es : NetEffect} → Each (λ p. onTable t (p .1) ≡ false → f p ≡ none) es
+    → gather f (ownOf t es) ≡ gather f es
+unfolding ownOf
+gather-own t f noElement = refl
+gather-own t f (anElement {x = p} {xs = ps} n rest) = go (onTable t (p .1)) refl (gather-own t f rest)
+  where
+    go : (b : Bool) → onTable t (p .1) ≡ b → gather f (ownOf t ps) ≡ gather f ps → gather f (ownOf t (p ∷ ps)) ≡ gather f (p ∷ ps)
+    go true e ih = rw (e, ih)
+    go false e ih = rw (e, n e) ih
+
+-- what is so of each effect is so of each entry
+entries-each : {P : ℕ × Effect → Type 0} (g : ℕ → Effect) (hs : List ℕ) → ((h : ℕ) → P (h, g h)) → Each P (entries g hs)
+unfolding entry entries
+entries-each g [] so = noElement
+entries-each {P} g (h ∷ hs) so = go (g h) (so h) (entries-each g hs so)
+  where
+    go : (e : Effect) → P (h, e) → Each P (entries g hs) → Each P (entry h e (entries g hs))
+    go nothing q ih = ih
+    go (inserted t) q ih = anElement q ih
+    go (deleted r) q ih = anElement q ih
+    go (updated m r) q ih = anElement q ih
+
+-- so it is for a net effect
+drawn-own : (t : ℕ) (f : ℕ × Effect → Option Row) (os : List RowOperation)
+    → ((h : ℕ) → onTable t (net h os) ≡ false → f (h, net h os) ≡ none) → gather f (ownOf t (netEffect os)) ≡ gather f (netEffect os)
+unfolding netEffect
+drawn-own t f os n = gather-own t f (entries-each (λ h. net h os) (named os) n)
+
+-- ---- Of other tables no row is drawn
+
+not-own : (r : Rule) (x : Row) → eqb (x .table) (r .table) ≡ false → ownRow r x ≡ none
+unfolding ownTable ownRow
+not-own r x n = rw n
+
+if-none : (b : Bool) (o : Option Row) → o ≡ none → (if b then o else none) ≡ none
+if-none true o q = q
+if-none false o q = refl
+
+module _ (r : Rule) where
+  none-deleted : (e : Effect) → onTable (r .table) e ≡ false → deletedRow r e ≡ none
+  unfolding onTable deletedRow
+  none-deleted nothing n = refl
+  none-deleted (inserted t) n = refl
+  none-deleted (deleted x) n = not-own r x n
+  none-deleted (updated m x) n = refl
+
+  none-old : (e : Effect) → onTable (r .table) e ≡ false → oldRow r e ≡ none
+  unfolding onTable oldRow
+  none-old nothing n = refl
+  none-old (inserted t) n = refl
+  none-old (deleted x) n = refl
+  none-old (updated m x) n = if-none (meets r m) (ownRow r x) (not-own r x n)
+
+  module _ (rows : List Row) (h : ℕ) where
+    none-live : (x : Row) → rowAt h rows ≡ some x → eqb (x .table) (r .table) ≡ false → liveRow r rows h ≡ none
+    unfolding liveRow
+    none-live x q n = rw q (not-own r x n)
+
+    none-inserted : {e : Effect} {a b : Option Row} → Differs e a b → rowAt h rows ≡ b → onTable (r .table) e ≡ false
+        → insertedRow r rows h e ≡ none
+    unfolding onTable insertedRow
+    none-inserted stays q n = refl
+    none-inserted (comes {e = x}) q n = none-live x q n
+    none-inserted goes q n = refl
+    none-inserted (changes o) q n = refl
+
+    none-new : {e : Effect} {a b : Option Row} → Differs e a b → rowAt h rows ≡ b → onTable (r .table) e ≡ false → newRow r rows h e ≡ none
+    unfolding onTable newRow
+    none-new stays q n = refl
+    none-new comes q n = refl
+    none-new goes q n = refl
+    none-new (changes {m = m} {e = x} o) q n =
+        if-none (meets r m) (liveRow r rows h) (none-live x q (rw (o .sameTable) n))
+
+-- the rows of its transition tables are of its own table
+pub own-transition : {m : Image} (r : Rule) (os : List RowOperation) → Sound m → Made m os
+    → transition r (makeAll os m .rows) (ownOf (r .table) (netEffect os)) ≡ transition r (makeAll os m .rows) (netEffect os)
+unfolding transition
+own-transition {m} r os s k =
+    let t = r .table in
+    let rows = makeAll os m .rows in
+    rw (
+      drawn-own t (λ p. insertedRow r rows (p .0) (p .1)) os (λ h. none-inserted r rows h (differs s k h) refl),
+      drawn-own t (λ p. deletedRow r (p .1)) os (λ h. none-deleted r (net h os)),
+      drawn-own t (λ p. newRow r rows (p .0) (p .1)) os (λ h. none-new r rows h (differs s k h) refl),
+      drawn-own t (λ p. oldRow r (p .1)) os (λ h. none-old r (net h os)),
+    )

@@ -1,0 +1,51 @@
+-- `slots::copy` meets its contract: all six words are read before the first is stored, and six words one after another are a slot.
+use native.Mathlib.Omega.{arith}
+use Rattle.slots.proofs.Frames.{slot-copied}
+use Rattle.slots.proofs.copy.Statement.{statement}
+use Rattle.slots.proofs.copy.Tie as tie
+
+-- what is known at the start, far before the last store
+abbrev known : tie.After-put325 → tie.After-slice-known
+known p5 =
+    let p3 = p5 .before .before .before .before .before .before .before .before in
+    let p1 = p3 .before .before .before .before .before .before .before .before in
+    let r4 = p1 .before .before .before .before .before .before in
+    let r2 = r4 .before .before .before .before in
+    r2 .before .before .before .before
+
+add-put32-5 : tie.Need-add-put32-5
+add-put32-5 c = omega (arith, known (c .before .before .before))
+
+put32-requires-6 : tie.Need-put32-requires-6
+put32-requires-6 c κs = omega (arith, known (c .before .before .before))
+
+returns : tie.Need-returns
+returns c =
+    let p6 = c .before .before in
+    let p5 = p6 .before .before .before .before in
+    let p4 = p5 .before .before .before .before in
+    let p3 = p4 .before .before .before .before in
+    let p2 = p3 .before .before .before .before in
+    let p1 = p2 .before .before .before .before in
+    let r6 = p1 .before .before in
+    let r5 = r6 .before .before in
+    let r4 = r5 .before .before in
+    let r3 = r4 .before .before in
+    let r2 = r3 .before .before in
+    let r1 = r2 .before .before in
+    let start = r1 .before .before in
+    slot-copied _ _ (λ k. start .slice-known .given k .fits) (start .before .pre .1)
+    (r1 .word32 .ensures) (r2 .word322 .ensures) (r3 .word323 .ensures)
+    (r4 .word324 .ensures) (r5 .word325 .ensures) (r6 .word326 .ensures)
+    (p1 .put32 .ensures) (p2 .put322 .ensures) (p3 .put323 .ensures)
+    (p4 .put324 .ensures) (p5 .put325 .ensures) (p6 .put326 .ensures)
+
+pub copy-spec : {M : Type 1} → statement M
+copy-spec =
+    tie.close
+    (tie.spec
+    (λ c κs. omega arith) (λ c. omega arith) (λ c κs. omega arith) (λ c. omega arith) (λ c κs. omega arith)
+    (λ c. omega arith) (λ c κs. omega arith) (λ c. omega arith) (λ c κs. omega arith) (λ c. omega arith) (λ c κs. omega arith)
+    (λ c κs. omega arith) (λ c. omega arith) (λ c κs. omega arith) (λ c. omega arith) (λ c κs. omega arith)
+    (λ c. omega arith) (λ c κs. omega arith) (λ c. omega arith) (λ c κs. omega arith) add-put32-5 put32-requires-6
+    (λ c. returns c .frame .len) returns)

@@ -1,0 +1,29 @@
+-- `slots::push_from` meets its contract: the slot's bytes are copied after the last, and then the size counts it.
+use native.Mathlib.Omega.{arith}
+use Rattle.slots.specs.Slots.{tableBytes}
+use Rattle.slots.proofs.Frames.{word-put}
+use Rattle.slots.proofs.Tables.{table-get, pushed}
+use Rattle.slots.proofs.push_from.Statement.{statement}
+use Rattle.slots.proofs.push_from.Tie as tie
+
+returns : tie.Need-returns
+unfolding tableBytes
+returns c =
+    let put = c .before .before in
+    let copied = put .before .before .before .before in
+    let sized = copied .before .before in
+    let start = sized .before .before .before in
+    let a = start .args in
+    rw (table-get (a .room .now) (a .from) (a .i) (start .pre .1 .1 .1 .1))
+    (pushed _ _ _ (start .pre .0) (sized .size .ensures) (omega arith) (copied .copy .ensures)
+    (word-put _ _ (omega arith) (omega arith) (put .put32 .ensures)))
+
+pub push-from-spec : {M : Type 1} → statement M
+unfolding tableBytes
+push-from-spec =
+    tie.close
+    (tie.spec
+    (λ c κs. omega arith)
+    (λ c. omega arith) (λ c. omega arith) (λ c. omega arith) (λ c. omega arith) (λ c. omega arith) (λ c. omega arith)
+    (λ c κs. (omega arith, omega arith))
+    (λ c. omega arith) (λ c. omega arith) (λ c κs. omega arith) (λ c. returns c .frame .len) returns)
