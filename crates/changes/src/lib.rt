@@ -83,7 +83,7 @@ pub fn update_all(room: &mut [u8], tables: [u8; 16], mask: usize)
     let mut left = n;
     while 0 < left {
         let e = slots::slot_at(room, room::WORKED, room::ROWS, n - left);
-        rows::update_row(room, tables, n - left, narrow(mask), e);
+        rows::update_row(room, tables, words::wide(e.kind), narrow(mask), e);
         left -= 1;
     }
 }

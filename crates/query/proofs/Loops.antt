@@ -1,19 +1,20 @@
 -- The loops over a table: what is left of a list that is counted down, and the choice of rows at picked places, one after another, into the
 -- table of the chosen ones.
 use mathlib.Core.Path.{_≡_, sym, ap, _∙_}
-use mathlib.Core.List.{List, [], _∷_, _++_}
-use Prim.Native.Nat.{ℕ, suc, _+_, _-_, _≤_, _<_}
+use mathlib.Core.List.{List, [], _∷_, _++_, map-append}
+use Prim.Native.Nat.{ℕ, suc, _+_, _-_, _%_, _≤_, _<_}
 use native.Mathlib.Omega.{arith}
 use lib.ListN.{length, getD, take, drop, drop-of-length-le, length-map}
 use lib.Seq.{drop-cons, length-take-le}
 use Rattle.meaning.specs.Base.{select}
+use Rattle.meaning.specs.Covers.{Row}
 use Rattle.words.specs.Words.{word32At}
-use Rattle.slots.specs.Slots.{tableAt, tableBytes, Frame, Stands, Holds, blank}
+use Rattle.slots.specs.Slots.{tableAt, tableBytes, Frame, Stands, Holds, blank, withKind}
 use Rattle.slots.proofs.Frames.{frame-refl, frame-trans}
 use Rattle.slots.proofs.Tables.{table-length, table-kept-below, stands-kept-below}
 use Rattle.terms.specs.declared.Query.{Query}
 use Rattle.terms.specs.Terms.{queryMeant}
-use Rattle.room.specs.Room.{CHOSEN, ROWS, Laid, rowsMeant}
+use Rattle.room.specs.Room.{CHOSEN, ROWS, Laid, rowMeant, rowsMeant}
 use Rattle.room.proofs.Kept.{kept-below, live-kept, transition-kept}
 use Rattle.query.specs.declared.Picked.{Picked}
 use Rattle.query.specs.Chosen.{baseOf, Chose}
@@ -24,7 +25,7 @@ use Rattle.query.proofs.Narrowing.{slotsAt, slots-more}
 
 -- ---- The choice: the rows chosen so far are those at the first j places
 
--- x0 is the room with no row chosen; only the chosen rows change from there
+-- x0 is the room with no row chosen; only the chosen rows change from there. A chosen row's kind is its place, which is no part of the row.
 pub record Choosing (x0 x : List ℕ) (base : ℕ) (rows : Picked) (j : ℕ) : Type 0 where
   pub source : Stands base ROWS x0
   pub below : base + tableBytes ROWS ≤ CHOSEN
@@ -33,7 +34,7 @@ pub record Choosing (x0 x : List ℕ) (base : ℕ) (rows : Picked) (j : ℕ) : T
   pub high : j ≤ rows .count
   pub frame : Frame CHOSEN (CHOSEN + tableBytes ROWS) x0 x
   pub stands : Stands CHOSEN ROWS x
-  pub list : tableAt x CHOSEN ≡ slotsAt (tableAt x0 base) (rows .places) j
+  pub chosen : rowsMeant (tableAt x CHOSEN) ≡ rowsMeant (slotsAt (tableAt x0 base) (rows .places) j)
 
 -- with an emptied table
 module _ {xs x0 : List ℕ} (l : Laid xs) (h : Holds CHOSEN ROWS xs x0 []) where
@@ -51,7 +52,7 @@ module _ {xs x0 : List ℕ} (l : Laid xs) (h : Holds CHOSEN ROWS xs x0 []) where
           high = omega arith;
           frame = frame-refl;
           stands = h .stands;
-          list = h .list;
+          chosen = ap rowsMeant (h .list);
         }
 
     pub choosing-done : (book : List ℕ) (triggers : ℕ) {x : List ℕ} {j : ℕ}
@@ -61,13 +62,14 @@ module _ {xs x0 : List ℕ} (l : Laid xs) (h : Holds CHOSEN ROWS xs x0 []) where
     choosing-done book triggers {x} {j} picks s none =
         let same = kept-below (h .frame) in
         let all : j ≡ rows .count = omega (arith, s .high) in
-        let chosen : tableAt x CHOSEN ≡ select (wanted x0 book triggers q) (tableAt x0 base) = rw (s .list, all) (picks .slots) in
+        let here = rowsMeant (select (wanted x0 book triggers q) (tableAt x0 base)) in
+        let chosen : rowsMeant (tableAt x CHOSEN) ≡ here = rw (s .chosen, all) (ap rowsMeant (picks .slots)) in
         record {
           frame = frame-trans (h .frame) (s .frame);
           stands = s .stands;
           rows =
               rw (← transition-kept same l (omega arith) (omega arith), ← live-kept same l (omega arith) (omega arith))
-              (ap rowsMeant chosen ∙ rw e (sym (chosen-rows x0 book triggers q)));
+              (chosen ∙ rw e (sym (chosen-rows x0 book triggers q)));
         }
 
 module _ {x0 x : List ℕ} {base : ℕ} (rows : Picked) {j : ℕ} (s : Choosing x0 x base rows j) (more : j < rows .count) where
@@ -82,18 +84,22 @@ module _ {x0 x : List ℕ} {base : ℕ} (rows : Picked) {j : ℕ} (s : Choosing 
   choosing-stands = stands-kept-below (s .frame) base ROWS (s .source) (s .below)
 
   pub choosing-room : word32At x CHOSEN < ROWS
+  unfolding rowsMeant
   choosing-room =
       let taken : length (take j (rows .places)) ≡ j = length-take-le j (rows .places) (omega (arith, s .len, choosing-few)) in
       let each = length-map (take j (rows .places)) (λ i. getD (tableAt x0 base) i blank) in
-      let size : length (tableAt x CHOSEN) ≡ j = rw (s .list) (each ∙ taken) in
+      let mine = length-map (slotsAt (tableAt x0 base) (rows .places) j) rowMeant in
+      let size : length (tableAt x CHOSEN) ≡ j =
+      sym (length-map (tableAt x CHOSEN) rowMeant) ∙ ap length (s .chosen) ∙ mine ∙ each ∙ taken in
       omega (arith, table-length x CHOSEN, choosing-few)
 
   module _ {i : ℕ} (is : i ≡ getD (rows .places) j 0) where
     pub choosing-inside : i < word32At x base
     choosing-inside = omega (arith, is, s .within .inside j more, table-length x base, ap length table-kept)
 
-    pub choosing-more : {y : List ℕ} → Holds CHOSEN ROWS x y (tableAt x CHOSEN ++ (getD (tableAt x base) i blank ∷ []))
+    pub choosing-more : {y : List ℕ} → Holds CHOSEN ROWS x y (tableAt x CHOSEN ++ (withKind (getD (tableAt x base) i blank) (i % 256) ∷ []))
         → Choosing x0 y base rows (j + 1)
+    unfolding rowsMeant rowMeant withKind
     choosing-more {y} h =
         record {
           source = s .source;
@@ -103,8 +109,12 @@ module _ {x0 x : List ℕ} {base : ℕ} (rows : Picked) {j : ℕ} (s : Choosing 
           high = omega arith;
           frame = frame-trans (s .frame) (h .frame);
           stands = h .stands;
-          list =
-              h .list
-              ∙ rw (s .list, table-kept, is)
-              (sym (slots-more (tableAt x0 base) (rows .places) j (omega (arith, s .len, choosing-few))));
+          chosen =
+              let l = slotsAt (tableAt x0 base) (rows .places) j in
+              let e = getD (tableAt x0 base) (getD (rows .places) j 0) blank in
+              let next = slots-more (tableAt x0 base) (rows .places) j (omega (arith, s .len, choosing-few)) in
+              rw (h .list, table-kept, is, next)
+              (map-append rowMeant (tableAt x CHOSEN) (withKind e (getD (rows .places) j 0 % 256) ∷ [])
+              ∙ ap (λ (rs : List Row). rs ++ (rowMeant e ∷ [])) (s .chosen)
+              ∙ sym (map-append rowMeant l (e ∷ [])));
         }

@@ -491,7 +491,7 @@ pub fn choose(room: &mut [u8], book: &[u8], triggers: usize, q: Query)
     let places = rows.places;
     let mut j: usize = 0;
     while j < rows.count {
-        slots::push_from(
+        slots::push_place(
             room,
             room::CHOSEN,
             room::ROWS,

@@ -15,7 +15,7 @@ use Rattle.meaning.specs.ByteLayouts.{bytes4}
 use Rattle.words.specs.Words.{Bytes, word32At}
 use Rattle.words.proofs.Laws.{split, word32-lt, read-written32, written32-below, written32-above}
 use Rattle.slots.specs.declared.Slot.{Slot}
-use Rattle.slots.specs.Slots.{slotAt, Frame, Stored, Alike, blank, withValue}
+use Rattle.slots.specs.Slots.{slotAt, Frame, Stored, Alike, blank, withValue, withMarks}
 
 -- ---- Frames
 
@@ -113,6 +113,20 @@ slot-fits xs b at =
       v1 = word32-lt xs b (at + 12);
       v2 = word32-lt xs b (at + 16);
       v3 = word32-lt xs b (at + 20);
+    }
+
+marked-fits : {e : Slot} (w : ℕ) → Fits e → Fits (withMarks e w)
+unfolding withMarks
+marked-fits w f =
+    record {
+      handle = f .handle;
+      kind = omega arith;
+      mask = omega arith;
+      table = omega arith;
+      v0 = f .v0;
+      v1 = f .v1;
+      v2 = f .v2;
+      v3 = f .v3;
     }
 
 pub blank-fits : Fits blank
@@ -223,18 +237,18 @@ module _ (at w : ℕ) (e : Slot) where
       let p6 = word-put (at + 20) (e .v3) (f .v3) (omega arith) e6 in
       words-put p1 p2 p3 p4 p5 p6 hk hm ht
 
--- the six words of a slot, read at a place and stored at another
-pub slot-copied : {x0 x1 x2 x3 x4 x5 x6 : List ℕ} {w0 w1 w2 w3 w4 w5 : ℕ} (from to : ℕ) → Bytes x0 → to + 24 ≤ length x0
-    → w0 ≡ word32At x0 from → w1 ≡ word32At x0 (from + 4) → w2 ≡ word32At x0 (from + 8)
-    → w3 ≡ word32At x0 (from + 12) → w4 ≡ word32At x0 (from + 16) → w5 ≡ word32At x0 (from + 20)
-    → x1 ≡ sets x0 to (bytes4 w0) → x2 ≡ sets x1 (to + 4) (bytes4 w1) → x3 ≡ sets x2 (to + 8) (bytes4 w2)
-    → x4 ≡ sets x3 (to + 12) (bytes4 w3) → x5 ≡ sets x4 (to + 16) (bytes4 w4) → x6 ≡ sets x5 (to + 20) (bytes4 w5)
-    → Stored x0 x6 to (slotAt x0 from)
-unfolding slotAt
-slot-copied {x0} {x1} {x2} {x3} {x4} {x5} {x6} from to b fits q0 q1 q2 q3 q4 q5 e0 e1 e2 e3 e4 e5 =
-    slot-put to (word32At x0 (from + 4)) (slotAt x0 from) (slot-fits x0 b from) (word32-lt x0 b (from + 4)) fits
-    (same x0 to q0 e0) (same x1 (to + 4) q1 e1) (same x2 (to + 8) q2 e2)
-    (same x3 (to + 12) q3 e3) (same x4 (to + 16) q4 e4) (same x5 (to + 20) q5 e5) refl refl refl
+-- five words of a slot, read at a place and stored at another with a second word w
+pub slot-copied : {x0 x1 x2 x3 x4 x5 x6 : List ℕ} {h v0 v1 v2 v3 : ℕ} (from to w : ℕ) → Bytes x0 → w < 4294967296 → to + 24 ≤ length x0
+    → h ≡ word32At x0 from → v0 ≡ word32At x0 (from + 8) → v1 ≡ word32At x0 (from + 12)
+    → v2 ≡ word32At x0 (from + 16) → v3 ≡ word32At x0 (from + 20)
+    → x1 ≡ sets x0 to (bytes4 h) → x2 ≡ sets x1 (to + 4) (bytes4 w) → x3 ≡ sets x2 (to + 8) (bytes4 v0)
+    → x4 ≡ sets x3 (to + 12) (bytes4 v1) → x5 ≡ sets x4 (to + 16) (bytes4 v2) → x6 ≡ sets x5 (to + 20) (bytes4 v3)
+    → Stored x0 x6 to (withMarks (slotAt x0 from) w)
+unfolding slotAt withMarks
+slot-copied {x0} {x1} {x2} {x3} {x4} {x5} {x6} from to w b small fits qh q0 q1 q2 q3 eh ew e0 e1 e2 e3 =
+    slot-put to w (withMarks (slotAt x0 from) w) (marked-fits w (slot-fits x0 b from)) small fits
+    (same x0 to qh eh) ew (same x2 (to + 8) q0 e0)
+    (same x3 (to + 12) q1 e1) (same x4 (to + 16) q2 e2) (same x5 (to + 20) q3 e3) refl refl refl
   where
     same : {y : List ℕ} {v w : ℕ} (x : List ℕ) (at : ℕ) → v ≡ w → y ≡ sets x at (bytes4 v) → y ≡ sets x at (bytes4 w)
     same x at q e = e ∙ ap (λ (u : ℕ). sets x at (bytes4 u)) q

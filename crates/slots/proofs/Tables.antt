@@ -3,13 +3,13 @@
 -- down are the list's, a place later or earlier.
 use mathlib.Core.Path.{_≡_, refl, sym, ap, _∙_}
 use mathlib.Core.List.{List, [], _∷_, _++_}
-use Prim.Native.Nat.{ℕ, zero, suc, _+_, _-_, _*_, _≤_, _<_}
+use Prim.Native.Nat.{ℕ, zero, suc, _+_, _-_, _*_, _/_, _%_, _≤_, _<_}
 use native.Mathlib.Omega.{arith}
 use lib.ListN.{length, getD, take, drop, set, take-append-drop, List·getD-eq-default}
 use Rattle.words.specs.Words.{Bytes, word32At}
 use Rattle.slots.specs.declared.Slot.{Slot}
 use Rattle.slots.specs.Slots.{slotAt, slotsFrom, tableAt, tableBytes, Frame, Stands, Holds, Stored}
-use Rattle.slots.specs.Slots.{Alike, MovedUp, MovedDown, blank, valueOf, insertAt, removeAt}
+use Rattle.slots.specs.Slots.{Alike, MovedUp, MovedDown, blank, valueOf, withKind, withMarks, insertAt, removeAt}
 use Rattle.slots.proofs.Frames.{frame-wider, frame-join, alike-rest, slot-alike, kept-below, kept-above}
 use Rattle.slots.proofs.Frames.{word-kept-below, word-kept-above, Fits, slot-fits, blank-fits, PutWord}
 
@@ -119,6 +119,21 @@ table-value xs base i column h b = rw (table-get xs base i h) (slot-value xs (ba
 pub no-value : (e : Slot) (column : ℕ) → 4 ≤ column → 0 ≡ valueOf e column
 unfolding valueOf
 no-value e column h = sym (List·getD-eq-default (e .v0 ∷ e .v1 ∷ e .v2 ∷ e .v3 ∷ []) 0 h)
+
+-- a slot with its own second word is as it is; with another top byte of that word it has another kind
+module _ (xs : List ℕ) (base i : ℕ) {w : ℕ} (h : i < word32At xs base) (is : w ≡ word32At xs (base + 4 + 24 * i + 4)) where
+  pub marks-same : withMarks (slotAt xs (base + 4 + 24 * i)) w ≡ getD (tableAt xs base) i blank
+  unfolding slotAt withMarks
+  marks-same = rw (table-get xs base i h, is)
+
+  pub marks-kind : (k : ℕ) → k < 256
+      → withMarks (slotAt xs (base + 4 + 24 * i)) (w % 16777216 + k * 16777216) ≡ withKind (getD (tableAt xs base) i blank) k
+  unfolding slotAt withMarks withKind
+  marks-kind k b =
+      let kind : (w % 16777216 + k * 16777216) / 16777216 % 256 ≡ k = omega arith in
+      let mask : (w % 16777216 + k * 16777216) / 65536 % 256 ≡ w / 65536 % 256 = omega arith in
+      let table : (w % 16777216 + k * 16777216) / 256 % 256 ≡ w / 256 % 256 = omega arith in
+      rw (table-get xs base i h, kind, mask, table, is)
 
 pub table-fits : (xs : List ℕ) → Bytes xs → (base i : ℕ) → Fits (getD (tableAt xs base) i blank)
 unfolding tableAt

@@ -95,6 +95,34 @@ withValue e c v =
       v3 = if eqb c 3 then v else e .v3;
     }
 
+-- the slot with another kind
+unfoldable pub withKind : Slot → ℕ → Slot
+withKind e k =
+    record {
+      handle = e .handle;
+      kind = k;
+      mask = e .mask;
+      table = e .table;
+      v0 = e .v0;
+      v1 = e .v1;
+      v2 = e .v2;
+      v3 = e .v3;
+    }
+
+-- the slot with the kind, mask and table of another word
+unfoldable pub withMarks : Slot → ℕ → Slot
+withMarks e w =
+    record {
+      handle = e .handle;
+      kind = w / 16777216 % 256;
+      mask = w / 65536 % 256;
+      table = w / 256 % 256;
+      v0 = e .v0;
+      v1 = e .v1;
+      v2 = e .v2;
+      v3 = e .v3;
+    }
+
 unfoldable pub insertAt : ℕ → Slot → List Slot → List Slot
 insertAt i e l = take i l ++ (e ∷ drop i l)
 

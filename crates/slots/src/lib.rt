@@ -6,8 +6,8 @@ ghost use mathlib.Core.List.{[], _++_, _∷_};
 ghost use Prim.Native.Nat.{_+_, _*_, _/_, _%_, _≤_, _<_};
 ghost use lib.ListN.{length, getD, set, drop, replicate};
 ghost use Rattle.words.specs.Words.{word32At};
-ghost use Rattle.slots.specs.Slots.{slotAt, tableAt, tableBytes, valueOf, withValue, Stands, Holds, Stored, MovedUp, MovedDown};
-ghost use Rattle.slots.specs.Slots.{Sorted, insertAt, removeAt, placeIn, hit, findIn, blank};
+ghost use Rattle.slots.specs.Slots.{slotAt, tableAt, tableBytes, valueOf, withValue, withKind, withMarks, Stands};
+ghost use Rattle.slots.specs.Slots.{Holds, Stored, MovedUp, MovedDown, Sorted, insertAt, removeAt, placeIn, hit, findIn, blank};
 
 // A row, an effect on a row, or a row operation: what each field means is the table's owner's to say.
 pub struct Slot {
@@ -289,14 +289,13 @@ pub fn put_value(room: &mut [u8], base: usize, most: usize, i: usize, column: us
     words::put32(room, base + HEAD + SLOT * i + 8 + 4 * column, v);
 }
 
-// The 24 bytes of a slot at another place.
-fn copy(room: &mut [u8], from: usize, to: usize)
+// The 24 bytes of a slot at another place, with other marks: kind, mask and table in one word.
+fn copy(room: &mut [u8], from: usize, to: usize, marks: u32)
     requires { ⌜ from + 24 ≤ length (now room) ⌝ }
     requires { ⌜ to + 24 ≤ length (now room) ⌝ }
-    ensures { λ _. ⌜ Stored (now (room .entry)) (now (room .exit)) to (slotAt (now (room .entry)) from) ⌝ }
+    ensures { λ _. ⌜ Stored (now (room .entry)) (now (room .exit)) to (withMarks (slotAt (now (room .entry)) from) marks) ⌝ }
 {
     let handle = words::word32(room, from);
-    let marks = words::word32(room, from + 4);
     let v0 = words::word32(room, from + 8);
     let v1 = words::word32(room, from + 12);
     let v2 = words::word32(room, from + 16);
@@ -320,7 +319,26 @@ pub fn push_from(room: &mut [u8], base: usize, most: usize, from: usize, held: u
         (tableAt (now (room .entry)) base ++ (getD (tableAt (now (room .entry)) from) i blank ∷ [])) ⌝ }
 {
     let end = size(room, base);
-    copy(room, from + HEAD + SLOT * i, base + HEAD + SLOT * end);
+    let at = from + HEAD + SLOT * i;
+    let marks = words::word32(room, at + 4);
+    copy(room, at, base + HEAD + SLOT * end, marks);
+    words::put32(room, base, (end + 1) as u32);
+}
+
+// The same, with the slot's place in `from` as its kind.
+pub fn push_place(room: &mut [u8], base: usize, most: usize, from: usize, held: usize, i: usize)
+    requires { ⌜ Stands base most (now room) ⌝ }
+    requires { ⌜ word32At (now room) base < most ⌝ }
+    requires { ⌜ most < 4294967296 ⌝ }
+    requires { ⌜ Stands from held (now room) ⌝ }
+    requires { ⌜ i < word32At (now room) from ⌝ }
+    ensures { λ _. ⌜ Holds base most (now (room .entry)) (now (room .exit))
+        (tableAt (now (room .entry)) base ++ (withKind (getD (tableAt (now (room .entry)) from) i blank) (i % 256) ∷ [])) ⌝ }
+{
+    let end = size(room, base);
+    let at = from + HEAD + SLOT * i;
+    let marks = words::word32(room, at + 4) % 16777216 + (i % 256) as u32 * 16777216;
+    copy(room, at, base + HEAD + SLOT * end, marks);
     words::put32(room, base, (end + 1) as u32);
 }
 

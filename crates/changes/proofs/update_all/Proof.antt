@@ -34,12 +34,9 @@ slot-at-requires c κs =
       updating-within (pre .0) (pre .1 .0) (pre .1 .1 .1) q inv (turn .loop-test .taken),
     )
 
-sub-update-row : tie.Need-sub-update-row Inv-loop μ-loop
-sub-update-row c = c .before .before .before .before .loop .inv .few
-
 update-row-requires : tie.Need-update-row-requires Inv-loop μ-loop
 update-row-requires c κs =
-    let read = c .before .before in
+    let read = c .before .before .before in
     let turn = read .before .before in
     let at-loop = turn .before in
     let sized = at-loop .before in
@@ -58,7 +55,7 @@ loop-again : tie.Need-loop-again Inv-loop μ-loop
 loop-again c =
     let made = c .before .before in
     let narrowed = made .before in
-    let read = narrowed .before .before in
+    let read = narrowed .before .before .before in
     let turn = read .before .before in
     let at-loop = turn .before in
     let sized = at-loop .before in
@@ -76,5 +73,5 @@ returns c =
 pub update-all-spec : {M : Type 1} → statement M
 update-all-spec =
     tie.close
-    (tie.spec Inv-loop μ-loop size-requires loop-holds sub-slot-at slot-at-requires sub-update-row (λ c κs. tt) update-row-requires
+    (tie.spec Inv-loop μ-loop size-requires loop-holds sub-slot-at slot-at-requires (λ c κs. tt) (λ c κs. tt) update-row-requires
     (λ c. omega arith) (λ c. omega arith) loop-again (λ c. c .before .loop .inv .taking .moves .beyond .len) returns)

@@ -33,8 +33,8 @@ loop-holds c =
     let k = emptied .before .before .before .before in
     choosing-start (k .pre) (emptied .empty .ensures) (k .args .q) _ (based .base-of .ensures) (picked .wanted-rows .ensures .within) long
 
-push-from-requires : tie.Need-push-from-requires Inv-loop μ-loop
-push-from-requires c κs =
+push-place-requires : tie.Need-push-place-requires Inv-loop μ-loop
+push-place-requires c κs =
     let tested = c .before .before in
     let s = tested .before .before .loop .inv in
     let more = tested .if1 .taken in (
@@ -46,7 +46,8 @@ loop-again : tie.Need-loop-again Inv-loop μ-loop
 loop-again c =
     let pushed = c .before .before in
     let tested = pushed .before .before .before in
-    choosing-more _ (tested .before .before .loop .inv) (tested .if1 .taken) (pushed .before .wide .ensures .0) (pushed .push-from .ensures)
+    let s = tested .before .before .loop .inv in
+    choosing-more _ s (tested .if1 .taken) (pushed .before .wide .ensures .0) (pushed .push-place .ensures)
 
 returns : tie.Need-returns Inv-loop μ-loop
 returns c =
@@ -63,5 +64,5 @@ unfolding tableBytes
 choose-spec =
     tie.close
     (tie.spec Inv-loop μ-loop (λ c κs. omega arith) (λ c κs. search needs) wanted-rows-requires loop-holds
-    (λ c. choosing-few _ (c .before .before .before .loop .inv) (c .before .if1 .taken)) (λ c κs. tt) push-from-requires
+    (λ c. choosing-few _ (c .before .before .before .loop .inv) (c .before .if1 .taken)) (λ c κs. tt) push-place-requires
     (λ c. omega arith) (λ c. omega arith) loop-again (λ c. returns c .frame .len) returns)

@@ -1,4 +1,4 @@
--- `slots::copy` meets its contract: all six words are read before the first is stored, and six words one after another are a slot.
+-- `slots::copy` meets its contract: five words are read before the first is stored, and with the marks they are the six words of a slot.
 use native.Mathlib.Omega.{arith}
 use Rattle.slots.proofs.Frames.{slot-copied}
 use Rattle.slots.proofs.copy.Statement.{statement}
@@ -9,9 +9,9 @@ abbrev known : tie.After-put325 → tie.After-slice-known
 known p5 =
     let p3 = p5 .before .before .before .before .before .before .before .before in
     let p1 = p3 .before .before .before .before .before .before .before .before in
-    let r4 = p1 .before .before .before .before .before .before in
-    let r2 = r4 .before .before .before .before in
-    r2 .before .before .before .before
+    let r3 = p1 .before .before .before .before .before .before in
+    let r1 = r3 .before .before .before .before in
+    r1 .before .before
 
 add-put32-5 : tie.Need-add-put32-5
 add-put32-5 c = omega (arith, known (c .before .before .before))
@@ -27,16 +27,14 @@ returns c =
     let p3 = p4 .before .before .before .before in
     let p2 = p3 .before .before .before .before in
     let p1 = p2 .before .before .before .before in
-    let r6 = p1 .before .before in
-    let r5 = r6 .before .before in
+    let r5 = p1 .before .before in
     let r4 = r5 .before .before in
     let r3 = r4 .before .before in
     let r2 = r3 .before .before in
     let r1 = r2 .before .before in
     let start = r1 .before .before in
-    slot-copied _ _ (λ k. start .slice-known .given k .fits) (start .before .pre .1)
-    (r1 .word32 .ensures) (r2 .word322 .ensures) (r3 .word323 .ensures)
-    (r4 .word324 .ensures) (r5 .word325 .ensures) (r6 .word326 .ensures)
+    slot-copied _ _ _ (λ k. start .slice-known .given k .fits) (omega (arith, start)) (start .before .pre .1)
+    (r1 .word32 .ensures) (r2 .word322 .ensures) (r3 .word323 .ensures) (r4 .word324 .ensures) (r5 .word325 .ensures)
     (p1 .put32 .ensures) (p2 .put322 .ensures) (p3 .put323 .ensures)
     (p4 .put324 .ensures) (p5 .put325 .ensures) (p6 .put326 .ensures)
 
@@ -45,7 +43,7 @@ copy-spec =
     tie.close
     (tie.spec
     (λ c κs. omega arith) (λ c. omega arith) (λ c κs. omega arith) (λ c. omega arith) (λ c κs. omega arith)
-    (λ c. omega arith) (λ c κs. omega arith) (λ c. omega arith) (λ c κs. omega arith) (λ c. omega arith) (λ c κs. omega arith)
+    (λ c. omega arith) (λ c κs. omega arith) (λ c. omega arith) (λ c κs. omega arith)
     (λ c κs. omega arith) (λ c. omega arith) (λ c κs. omega arith) (λ c. omega arith) (λ c κs. omega arith)
     (λ c. omega arith) (λ c κs. omega arith) (λ c. omega arith) (λ c κs. omega arith) add-put32-5 put32-requires-6
     (λ c. returns c .frame .len) returns)

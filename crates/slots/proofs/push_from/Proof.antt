@@ -1,8 +1,8 @@
--- `slots::push_from` meets its contract: the slot's bytes are copied after the last, and then the size counts it.
+-- `slots::push_from` meets its contract: the slot's words are copied after the last, and then the size counts it.
 use native.Mathlib.Omega.{arith}
 use Rattle.slots.specs.Slots.{tableBytes}
 use Rattle.slots.proofs.Frames.{word-put}
-use Rattle.slots.proofs.Tables.{table-get, pushed}
+use Rattle.slots.proofs.Tables.{marks-same, pushed}
 use Rattle.slots.proofs.push_from.Statement.{statement}
 use Rattle.slots.proofs.push_from.Tie as tie
 
@@ -11,10 +11,11 @@ unfolding tableBytes
 returns c =
     let put = c .before .before in
     let copied = put .before .before .before .before in
-    let sized = copied .before .before in
+    let read = copied .before .before in
+    let sized = read .before .before in
     let start = sized .before .before .before in
     let a = start .args in
-    rw (table-get (a .room .now) (a .from) (a .i) (start .pre .1 .1 .1 .1))
+    rw (← marks-same (a .room .now) (a .from) (a .i) (start .pre .1 .1 .1 .1) (read .word32 .ensures))
     (pushed _ _ _ (start .pre .0) (sized .size .ensures) (omega arith) (copied .copy .ensures)
     (word-put _ _ (omega arith) (omega arith) (put .put32 .ensures)))
 
@@ -24,6 +25,7 @@ push-from-spec =
     tie.close
     (tie.spec
     (λ c κs. omega arith)
-    (λ c. omega arith) (λ c. omega arith) (λ c. omega arith) (λ c. omega arith) (λ c. omega arith) (λ c. omega arith)
+    (λ c. omega arith) (λ c. omega arith) (λ c. omega arith) (λ c. omega arith) (λ c κs. omega arith)
+    (λ c. omega arith) (λ c. omega arith) (λ c. omega arith)
     (λ c κs. (omega arith, omega arith))
     (λ c. omega arith) (λ c. omega arith) (λ c κs. omega arith) (λ c. returns c .frame .len) returns)
