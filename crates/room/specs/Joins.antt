@@ -47,7 +47,8 @@ pub record Takes (op : Slot) (l : List Slot) : Type 0 where
   pub sorted : Sorted l
   pub fits : length (joinSlots op l) ≤ ENTRIES
 
--- Each rule's own table: 0..3, or 4 for a rule that is not active. Past the last rule, and nowhere before, it is 5.
+-- A rule's own table is 0..3, and 4 stands for that of a rule that is not active. Where more than that stands there is no rule, and none
+-- after it.
 pub record Ended (tables : List ℕ) : Type 0 where
   pub stays : (j k : ℕ) → j ≤ k → k < 16 → 4 < getD tables j 0 → 4 < getD tables k 0
 

@@ -9,8 +9,8 @@ use Rattle.slots.specs.Slots.{tableAt}
 use Rattle.room.specs.Room.{NEXT, LIVE, INSERTED, WAITS, END, waitAt, Laid, Kept}
 use Rattle.room.specs.Joins.{joinIf, concerns}
 
--- The live rows and the next handle are these, an operation joined what waits for each rule on its own table, and what stands between them, and
--- past the tables, stays.
+-- The live rows and the next handle are these, an operation joined what waits for each rule on its own table, and what stands between
+-- them, and past the tables, stays.
 pub record Turned (xs ys tables : List ℕ) (live : List Slot) (next : ℕ) (op : Slot) : Type 0 where
   pub laid : Laid ys
   pub rows : tableAt ys LIVE ≡ live

@@ -1,5 +1,5 @@
--- Whether a rule of a plan is triggered: an inactive one is not, nor is one for which nothing waits; the head of another is read where the
--- plan says that it stands, and what wakes it asks only for the table, the triggers and the columns there.
+-- Whether a rule of a plan is triggered: an inactive one is not; the head of an active one is read where the plan says that it stands, and
+-- what wakes it asks only for the table, the triggers and the columns there.
 use mathlib.Core.Path.{_≡_, refl, sym, ap, _∙_}
 use mathlib.Core.Bool.{Bool, true, false, _&&_}
 use mathlib.Core.List.{List}
@@ -11,8 +11,6 @@ use Rattle.meaning.specs.ByteLayouts as ByteLayouts
 use Rattle.meaning.specs.RowOperations.{Effect, NetEffect, nothing, inserted, deleted, updated}
 use Rattle.meaning.specs.Processing.{triggered, waits}
 use Rattle.meaning.specs.Processing.TransitionTables.{wakes, ownTable, meets}
-use Rattle.words.specs.Words.{word32At}
-use Rattle.slots.specs.Slots.{tableAt, slotsFrom}
 use Rattle.book.specs.declared.Head.{Head}
 use Rattle.book.specs.declared.HeadRead.{HeadRead}
 use Rattle.book.specs.declared.HeadRead.the-variants as headRead
@@ -22,7 +20,7 @@ use Rattle.plan.specs.declared.Plan.{Plan}
 use Rattle.plan.specs.Plans.{Placed}
 use Rattle.plan.proofs.Active.{low-active, low-own, high-idle}
 use Rattle.room.specs.declared.Watch.{Watch}
-use Rattle.room.specs.Room.{watchRule, waitAt, waitMeant, waitsIn}
+use Rattle.room.specs.Room.{watchRule, waitsIn}
 use Rattle.room.proofs.Draws.{woken-whole}
 use Rattle.trigger.specs.Triggers.{Triggers}
 
@@ -69,27 +67,18 @@ module _ (xs : List ℕ) {s : List ℕ} {plan : Plan} (k : ℕ) (here : Placed s
   unfolding triggered
   not-active off = record { is = λ state rep. rw (here .listed, high-idle here off) }
 
-  -- an active rule is triggered where something that waits for it wakes it
-  woken : {r : Bool} → k < 16 → getD (plan .tables) k 0 ≤ 3 → r ≡ any (λ p. wakes (here .rule) (p .1)) (waitsIn xs k)
-      → Triggers xs s plan k r
-  unfolding triggered
-  woken low on asked =
-      record {
-        is = λ state rep.
-            rw (here .listed)
-            (asked
-            ∙ woken-whole rep k low (here .rule) (low-own here on)
-            ∙ ap (λ (t : Bool). t && any (λ p. wakes (here .rule) (p .1)) (waits state k)) (sym (low-active here on)));
-      }
-
-  pub none-waits : k < 16 → getD (plan .tables) k 0 ≤ 3 → word32At xs (waitAt k) ≡ 0 → Triggers xs s plan k false
-  unfolding waitsIn waitMeant tableAt slotsFrom
-  none-waits low on empty = woken low on (rw empty)
-
   pub read-and-woken : {read : HeadRead} {head : Head} (w : Watch) {r : Bool} → k < 16 → getD (plan .tables) k 0 ≤ 3
       → headThen s (getD (plan .starts) k 0) read ≡ ByteLayouts.rule (plan .count) s (getD (plan .starts) k 0)
       → read ≡ headRead.Is head → (w .table ≡ head .table) × (w .triggers ≡ head .triggers) × (w .columns ≡ head .columns)
       → r ≡ any (λ p. wakes (watchRule w) (p .1)) (waitsIn xs k) → Triggers xs s plan k r
-  read-and-woken {head = head} w low on e is made asked =
+  unfolding triggered
+  read-and-woken {head = head} w {r} low on e is made asked =
       let of = watched (here .rule) head w (head-read s (getD (plan .starts) k 0) (e ∙ here .read) is) made in
-      woken low on (asked ∙ any-same (here .rule) w of (waitsIn xs k))
+      record {
+        is = λ state rep.
+            rw (here .listed)
+            (asked
+            ∙ any-same (here .rule) w of (waitsIn xs k)
+            ∙ woken-whole rep k low (here .rule) (low-own here on)
+            ∙ ap (λ (t : Bool). t && any (λ p. wakes (here .rule) (p .1)) (waits state k)) (sym (low-active here on)));
+      }

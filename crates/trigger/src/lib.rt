@@ -37,9 +37,6 @@ fn is_triggered(room: &[u8], s: &[u8], plan: Plan, k: usize) -> bool
     if 3 < tables[k] {
         return false;
     }
-    if slots::size(room, room::WAITS + room::WAIT * k) == 0 {
-        return false;
-    }
     let starts = plan.starts;
     match book::head_at(s, plan.count, starts[k]) {
         HeadRead::Is { head } => effects::triggered(room, k, watch(head)),
