@@ -12,7 +12,7 @@ use Rattle.words.specs.Words.{Bytes}
 use Rattle.slots.specs.Slots.{tableAt, tableBytes, Frame}
 use Rattle.slots.proofs.Frames.{frame-wider, frame-trans, word-kept-below}
 use Rattle.slots.proofs.Tables.{table-kept-below, table-kept-above, stands-kept-below}
-use Rattle.room.specs.Room.{NEXT, CHOSEN, WAITS, END, ROWS, ENTRIES, waitAt, Laid, Kept, waitMeant, liveRows, transitionIn, waitsIn}
+use Rattle.room.specs.Room.{NEXT, CHOSEN, WAITS, END, ROWS, ENTRIES, waitAt, Laid, Kept, waitMeant, liveRows, transitionIn, waitsIn, stretchIn, STRETCH}
 use Rattle.room.specs.Represents.{Represents, Running}
 use Rattle.room.proofs.Kept.{kept-trans, kept-below, live-kept, transition-kept, laid-aside}
 use Rattle.room.proofs.Steps.{madeAll-none}
@@ -66,7 +66,7 @@ module _ {xs ys : List ℕ} (l : Laid xs) (a : Aside xs ys) where
   beyond-aside = record { len = a .frame .len; same = λ i b h. a .frame .above i (omega arith) }
 
   pub represents-aside : {tables : List ℕ} {s : State} → Bytes ys → Represents xs tables s → Represents ys tables s
-  unfolding waitsIn
+  unfolding waitsIn stretchIn
   represents-aside bytes p =
       record {
         laid = a .laid;
@@ -74,13 +74,19 @@ module _ {xs ys : List ℕ} (l : Laid xs) (a : Aside xs ys) where
         next = word-kept-below (a .frame) NEXT (omega arith) ∙ p .next;
         rows = live-aside ∙ p .rows;
         ended = p .ended;
-        waiting = λ k h.
-            ap waitMeant (table-kept-above (a .frame) (waitAt k) ENTRIES (l .waits k h) (omega arith)) ∙ p .waiting k h;
+        joined = p .joined;
+        since = p .since;
+        whole = p .whole;
+        marked = p .marked;
+        waiting = λ k h on.
+            ap waitMeant (table-kept-above (a .frame) (waitAt k) ENTRIES (l .waits k h) (omega arith)) ∙ p .waiting k h on;
+        stretch = ap waitMeant (table-kept-above (a .frame) STRETCH ENTRIES (l .stretch) (omega arith)) ∙ p .stretch;
       }
 
-pub running-aside : {xs ys tables : List ℕ} → Aside xs ys → Bytes ys → Running xs tables → Running ys tables
+pub running-aside : {xs ys : List ℕ} → Aside xs ys → Bytes ys → Running xs → Running ys
 running-aside a bytes run =
     record {
+      tables = run .tables;
       start = run .start;
       state = run .state;
       reached = run .reached;
@@ -89,9 +95,9 @@ running-aside a bytes run =
 
 -- ---- What acts after it
 
-module _ {xs ys tables : List ℕ} (l : Laid xs) (a : Aside xs ys) where
+module _ {xs ys : List ℕ} (l : Laid xs) (a : Aside xs ys) where
   pub acts-after : {zs : List ℕ} {f g : Image → Result} {r : Step} → Bytes ys
-      → ((s : State) → Represents xs tables s → g (s .image) ≡ f (s .image)) → Acts ys zs tables f r → Acts xs zs tables g r
+      → ((tables : List ℕ) (s : State) → Represents xs tables s → g (s .image) ≡ f (s .image)) → Acts ys zs f r → Acts xs zs g r
   acts-after {zs} {f} {g} {r} bytes same act =
       let len : length ys ≡ length xs = a .frame .len in
       let kept : Kept END (length xs) ys zs = rw len at (act .beyond) in
@@ -99,16 +105,16 @@ module _ {xs ys tables : List ℕ} (l : Laid xs) (a : Aside xs ys) where
         laid = act .laid;
         shown = act .shown ∙ transition-aside l a;
         beyond = kept-trans (beyond-aside l a) kept;
-        follows = λ start s q p. rw (same s p) (act .follows start s q (represents-aside l a bytes p));
+        follows = λ tables start s q p. rw (same tables s p) (act .follows tables start s q (represents-aside l a bytes p));
       }
 
   pub fails-after : {g : Image → Result} → Bytes ys → (reason : Reason)
-      → ((s : State) → Represents xs tables s → g (s .image) ≡ ends (failed (reasonMeant reason)) [])
-      → Acts xs ys tables g (Failed reason)
+      → ((tables : List ℕ) (s : State) → Represents xs tables s → g (s .image) ≡ ends (failed (reasonMeant reason)) [])
+      → Acts xs ys g (Failed reason)
   fails-after bytes reason same =
       record {
         laid = a .laid;
         shown = transition-aside l a;
         beyond = beyond-aside l a;
-        follows = λ start s q p. rw (same s p) (Steps.fails {os = []} (rw (madeAll-none s) (represents-aside l a bytes p)));
+        follows = λ tables start s q p. rw (same tables s p) (Steps.fails {os = []} (rw (madeAll-none s) (represents-aside l a bytes p)));
       }

@@ -34,11 +34,11 @@ pub updateRows-fits : {t mask : ℕ} {es : List Expression} {ts : List Term} →
     → (t ≤ 3) × (mask ≤ 15) × (length es ≡ ones mask)
 updateRows-fits (updateRowsFits a b c) = (a, b, c)
 
-pub rolled-back : {xs tables : List ℕ} → Running xs tables → Acts xs xs tables (λ m. ends rolledBack []) RolledBack
+pub rolled-back : {xs : List ℕ} → Running xs → Acts xs xs (λ m. ends rolledBack []) RolledBack
 rolled-back run =
     record {
       laid = run .represents .laid;
       shown = refl;
       beyond = kept-refl;
-      follows = λ start s r p. rollsBack {os = []} (rw (madeAll-none s) p);
+      follows = λ tables start s r p. rollsBack {os = []} (rw (madeAll-none s) p);
     }

@@ -37,7 +37,7 @@ use Rattle.changes.specs.Steps.{Acts}
 use Rattle.changes.proofs.Moving.{moves-one, moves-acts}
 use Rattle.action.proofs.Aside.{Aside, fails-after}
 
-module _ {xs tables : List ℕ} (run : Running xs tables) (h : ℕ) where
+module _ {xs : List ℕ} (run : Running xs) (h : ℕ) where
   nothing-aside : Aside xs xs
   nothing-aside = record { frame = frame-refl; laid = run .represents .laid }
 
@@ -53,53 +53,53 @@ module _ {xs tables : List ℕ} (run : Running xs tables) (h : ℕ) where
 
   -- ---- Delete
 
-  pub delete-can : CanJoin xs tables 2 0 (findIn h (tableAt xs LIVE))
+  pub delete-can : CanJoin xs 2 0 (findIn h (tableAt xs LIVE))
   unfolding operationAt
   delete-can = go (findIn h (tableAt xs LIVE)) refl
     where
-      go : (f : Found) → findIn h (tableAt xs LIVE) ≡ f → CanJoin xs tables 2 0 f
+      go : (f : Found) → findIn h (tableAt xs LIVE) ≡ f → CanJoin xs 2 0 f
       go (At i) e =
           let b = find-at h (tableAt xs LIVE) e .0 in
           joinable (run .reached) (run .represents) (fits-delete (run .reached) (run .represents) i b)
           (says-delete (getD (tableAt xs LIVE) i blank))
       go Nothing e = tt
 
-  pub deleted-one : {ys : List ℕ} → Bytes ys → Deleted xs ys tables (findIn h (tableAt xs LIVE)) Made
-      → Acts xs ys tables (operate (delete h)) Went
+  pub deleted-one : {ys : List ℕ} → Bytes ys → Deleted xs ys (findIn h (tableAt xs LIVE)) Made
+      → Acts xs ys (operate (delete h)) Went
   unfolding operationAt operate deleteAll
   deleted-one {ys} bytes d = go (findIn h (tableAt xs LIVE)) refl d
     where
-      go : (f : Found) → findIn h (tableAt xs LIVE) ≡ f → Deleted xs ys tables f Made → Acts xs ys tables (operate (delete h)) Went
+      go : (f : Found) → findIn h (tableAt xs LIVE) ≡ f → Deleted xs ys f Made → Acts xs ys (operate (delete h)) Went
       go (At i) e t =
           let b = find-at h (tableAt xs LIVE) e .0 in
           let row = rowMeant (getD (tableAt xs LIVE) i blank) in
           moves-acts (deletes row ∷ []) run
-          (moves-one (deletes row) t (λ start s q p.
+          (moves-one (deletes row) t (λ tables start s q p.
           let f = fits-delete q p i b in
           (f, turned-delete q p bytes i b f refl t)))
-          (λ s p. rw (← p .rows, is-there e))
+          (λ tables s p. rw (← p .rows, is-there e))
       go Nothing e t = absurd t
 
-  pub missing-one : {ys : List ℕ} → Deleted xs ys tables (findIn h (tableAt xs LIVE)) NoSuchRow
-      → Acts xs ys tables (operate (delete h)) (Failed reason.NoSuchRow)
+  pub missing-one : {ys : List ℕ} → Deleted xs ys (findIn h (tableAt xs LIVE)) NoSuchRow
+      → Acts xs ys (operate (delete h)) (Failed reason.NoSuchRow)
   unfolding operate fails
   missing-one {ys} d = go (findIn h (tableAt xs LIVE)) refl d
     where
-      go : (f : Found) → findIn h (tableAt xs LIVE) ≡ f → Deleted xs ys tables f NoSuchRow
-          → Acts xs ys tables (operate (delete h)) (Failed reason.NoSuchRow)
+      go : (f : Found) → findIn h (tableAt xs LIVE) ≡ f → Deleted xs ys f NoSuchRow
+          → Acts xs ys (operate (delete h)) (Failed reason.NoSuchRow)
       go (At i) e t = absurd t
       go Nothing e t =
           let now = run .represents in
-          rw t (fails-after (now .laid) nothing-aside (now .bytes) reason.NoSuchRow (λ s p. rw (← p .rows, is-missing e)))
+          rw t (fails-after (now .laid) nothing-aside (now .bytes) reason.NoSuchRow (λ tables s p. rw (← p .rows, is-missing e)))
 
   -- ---- Update
 
   pub missing-update : (mask : ℕ) (vs : List ℤ) → findIn h (tableAt xs LIVE) ≡ Nothing
-      → Acts xs xs tables (operate (update h mask vs)) (Failed reason.NoSuchRow)
+      → Acts xs xs (operate (update h mask vs)) (Failed reason.NoSuchRow)
   unfolding operate fails
   missing-update mask vs e =
       let now = run .represents in
-      fails-after (now .laid) nothing-aside (now .bytes) reason.NoSuchRow (λ s p. rw (← p .rows, is-missing e))
+      fails-after (now .laid) nothing-aside (now .bytes) reason.NoSuchRow (λ tables s p. rw (← p .rows, is-missing e))
 
   module _ {mask k i : ℕ} (vs : List ℤ) {new : Slot} (small : mask ≤ 15) (narrowed : mask ≤ 255 → k ≡ mask)
       (found : findIn h (tableAt xs LIVE) ≡ At i)
@@ -130,25 +130,25 @@ module _ {xs tables : List ℕ} (run : Running xs tables) (h : ℕ) where
     k-is : k ≡ mask
     k-is = narrowed (omega arith)
 
-    pub update-can : CanJoin xs tables 3 k (findIn (new .handle) (tableAt xs LIVE))
+    pub update-can : CanJoin xs 3 k (findIn (new .handle) (tableAt xs LIVE))
     unfolding operationAt
     update-can =
         rw (k-is, new-handle, found)
         (joinable (run .reached) (run .represents) (fits-update (run .reached) (run .represents) i new below only new-proper)
         (says-update mask (getD (tableAt xs LIVE) i blank) new))
 
-    pub updated-one : {ys : List ℕ} (a : Looked) → Bytes ys → Updated xs ys tables k new (findIn (new .handle) (tableAt xs LIVE)) a
-        → Acts xs ys tables (operate (update h mask vs)) Went
+    pub updated-one : {ys : List ℕ} (a : Looked) → Bytes ys → Updated xs ys k new (findIn (new .handle) (tableAt xs LIVE)) a
+        → Acts xs ys (operate (update h mask vs)) Went
     unfolding operationAt operate updateAll updatesOf
     updated-one {ys} a bytes d =
         go a (rw (k-is, ap (λ (n : ℕ). findIn n (tableAt xs LIVE)) new-handle, found) at d)
       where
-        go : (a : Looked) → Updated xs ys tables mask new (At i) a → Acts xs ys tables (operate (update h mask vs)) Went
+        go : (a : Looked) → Updated xs ys mask new (At i) a → Acts xs ys (operate (update h mask vs)) Went
         go Made t =
             let o = updates mask (rowMeant (getD (tableAt xs LIVE) i blank)) (rowMeant new) in
             moves-acts (o ∷ []) run
-            (moves-one o t (λ start s q p.
+            (moves-one o t (λ tables start s q p.
             let f = fits-update q p i new below only new-proper in
             (f, turned-update q p bytes mask i new below f refl t)))
-            (λ s p. rw (← p .rows, is-there found, is))
+            (λ tables s p. rw (← p .rows, is-there found, is))
         go NoSuchRow t = absurd t

@@ -139,37 +139,37 @@ pub table-chosen : {xs ys : List ℕ} (s : List ℕ) (triggers table : ℕ) (ter
     → Chose xs ys (rowsOf table (termsMeant s triggers terms))
 table-chosen s triggers table terms h c = rw (query-rows s triggers (record { source = table; terms = terms }) h) at c
 
-module _ {xs ys tables : List ℕ} (run : Running xs tables) (a : Aside xs ys) (table : ℕ) (ts : List Term)
+module _ {xs ys : List ℕ} (run : Running xs) (a : Aside xs ys) (table : ℕ) (ts : List Term)
     (rows : rowsMeant (tableAt ys CHOSEN) ≡ chosen (transitionIn xs) (liveRows xs) (rowsOf table ts)) where
   pub taken-rows : Taken (liveRows ys) 0 (rowsMeant (tableAt ys CHOSEN))
   taken-rows =
       rw (live-aside (run .represents .laid) a, rows, run .represents .rows)
       (chosen-taken (transitionIn xs) (run .state .image) table ts (reached-sound (run .reached)))
 
-  pub acts-delete : {zs : List ℕ} → Bytes ys → Acts ys zs tables (λ m. deleteAll (rowsMeant (tableAt ys CHOSEN))) Went
-      → Acts xs zs tables (perform (transitionIn xs) (deleteRows table ts)) Went
+  pub acts-delete : {zs : List ℕ} → Bytes ys → Acts ys zs (λ m. deleteAll (rowsMeant (tableAt ys CHOSEN))) Went
+      → Acts xs zs (perform (transitionIn xs) (deleteRows table ts)) Went
   unfolding perform
   acts-delete bytes act =
-      acts-after (run .represents .laid) a bytes (λ s p. rw (← p .rows, rows)) act
+      acts-after (run .represents .laid) a bytes (λ tables s p. rw (← p .rows, rows)) act
 
 -- ---- An insert of one row
 
-pub acts-insert : {xs ys zs tables : List ℕ} {vs : List ℤ} {r : Step} (table : ℕ) → Laid xs → WorkedValues xs ys vs → Bytes ys
-    → Acts ys zs tables (insertAll table (valuesIn ys)) r → Acts xs zs tables (insertAll table (vs ∷ [])) r
+pub acts-insert : {xs ys zs : List ℕ} {vs : List ℤ} {r : Step} (table : ℕ) → Laid xs → WorkedValues xs ys vs → Bytes ys
+    → Acts ys zs (insertAll table (valuesIn ys)) r → Acts xs zs (insertAll table (vs ∷ [])) r
 unfolding valuesIn
 acts-insert table l w bytes act =
-    acts-after l (aside-worked l (w .works)) bytes (λ s p. rw (w .values)) act
+    acts-after l (aside-worked l (w .works)) bytes (λ tables s p. rw (w .values)) act
 
 -- ---- An insert from a query
 
-module _ {xs zs tables : List ℕ} {q : Query} {es : List Expression} (table : ℕ) (l : Laid xs) where
+module _ {xs zs : List ℕ} {q : Query} {es : List Expression} (table : ℕ) (l : Laid xs) where
   pub query-fails : Prepared xs zs q es 15 false → Bytes zs
-      → Acts xs zs tables (perform (transitionIn xs) (insertFromQuery table q es)) (Failed reason.SumOutOfRange)
+      → Acts xs zs (perform (transitionIn xs) (insertFromQuery table q es)) (Failed reason.SumOutOfRange)
   unfolding perform fails
-  query-fails p bytes = fails-after l (p .aside) bytes reason.SumOutOfRange (λ s r. rw (← r .rows, ← p .rows, unready p))
+  query-fails p bytes = fails-after l (p .aside) bytes reason.SumOutOfRange (λ tables s r. rw (← r .rows, ← p .rows, unready p))
 
   pub query-inserts : {ws : List ℕ} {r : Step} → length es ≡ 4 → Prepared xs zs q es 15 true → Bytes zs
-      → Acts zs ws tables (insertAll table (valuesIn zs)) r → Acts xs ws tables (perform (transitionIn xs) (insertFromQuery table q es)) r
+      → Acts zs ws (insertAll table (valuesIn zs)) r → Acts xs ws (perform (transitionIn xs) (insertFromQuery table q es)) r
   unfolding perform valuesIn
   query-inserts four p bytes act =
       let y = ready p in
@@ -177,7 +177,7 @@ module _ {xs zs tables : List ℕ} {q : Query} {es : List Expression} (table : �
       let same : map (λ e. rowMeant e .values) (tableAt zs WORKED) ≡ y .values =
       values-of (tableAt zs WORKED) ∙ ap (map (λ (r : Row). r .values)) (y .rows)
       ∙ values-with (tableAt zs CHOSEN) (y .values) (y .each) f in
-      acts-after l (p .aside) bytes (λ s r. rw (← r .rows, ← p .rows, y .found, same)) act
+      acts-after l (p .aside) bytes (λ tables s r. rw (← r .rows, ← p .rows, y .found, same)) act
 
 -- ---- An update
 
@@ -190,15 +190,15 @@ update-ready p =
     let y = ready p in
     record { values = y .values; each = ready-each y; rows = y .rows }
 
-module _ {xs zs tables : List ℕ} {mask : ℕ} {es : List Expression} (table : ℕ) (ts : List Term) (l : Laid xs) where
+module _ {xs zs : List ℕ} {mask : ℕ} {es : List Expression} (table : ℕ) (ts : List Term) (l : Laid xs) where
   pub update-fails : Prepared xs zs (rowsOf table ts) es mask false → Bytes zs
-      → Acts xs zs tables (perform (transitionIn xs) (updateRows table mask es ts)) (Failed reason.SumOutOfRange)
+      → Acts xs zs (perform (transitionIn xs) (updateRows table mask es ts)) (Failed reason.SumOutOfRange)
   unfolding perform fails
-  update-fails p bytes = fails-after l (p .aside) bytes reason.SumOutOfRange (λ s r. rw (← r .rows, ← p .rows, unready p))
+  update-fails p bytes = fails-after l (p .aside) bytes reason.SumOutOfRange (λ tables s r. rw (← r .rows, ← p .rows, unready p))
 
-  pub query-updates : {ws : List ℕ} → Prepared xs zs (rowsOf table ts) es mask true → Bytes zs → UpdatesAll zs ws tables mask
-      → Acts xs ws tables (perform (transitionIn xs) (updateRows table mask es ts)) Went
+  pub query-updates : {ws : List ℕ} → Prepared xs zs (rowsOf table ts) es mask true → Bytes zs → UpdatesAll zs ws mask
+      → Acts xs ws (perform (transitionIn xs) (updateRows table mask es ts)) Went
   unfolding perform
   query-updates p bytes u =
       let y = ready p in
-      acts-after l (p .aside) bytes (λ s r. rw (← r .rows, ← p .rows, y .found)) (u .acts (y .values) (ready-each y) (y .rows))
+      acts-after l (p .aside) bytes (λ tables s r. rw (← r .rows, ← p .rows, y .found)) (u .acts (y .values) (ready-each y) (y .rows))

@@ -1,7 +1,7 @@
 -- Laws for the decoders of actions and rules, by what `words::byte` answered: a table is a byte up to 3, and the columns of a rule are what
 -- its triggers admit. A mask of which nothing is left when n bits are shifted out is below 2 ^ n. A rule that is read has the head that is
 -- read at its place.
-use mathlib.Core.Path.{_≡_, refl, sym, ap, _∙_}
+use mathlib.Core.Path.{_≡_, sym, _∙_}
 use mathlib.Core.Bool.{Bool, true, false, not}
 use mathlib.Core.List.{List}
 use mathlib.Core.Option.{none, some}
@@ -12,20 +12,15 @@ use borrow.Author.Tests.{ltb-true, ltb-false, le-leb, lt-leb, eqb-true, eqb-fals
 use lib.Dec.{eqb, leb, ltb}
 use lib.ListN.{length}
 use Rattle.meaning.specs.Base.{if_then_else_, bit, within}
-use Rattle.meaning.specs.Reading.{bad, got, onFrom, byteWithin, many, readAll}
-use Rattle.meaning.specs.Covers.{Rule}
-use Rattle.meaning.specs.ByteLayouts.{table, mask, columns, condition, actions, rule, book}
-use Rattle.meaning.proofs.Parsing.{on-from-got, same-value}
+use Rattle.meaning.specs.Reading.{bad, got, byteWithin, many, readAll}
+use Rattle.meaning.specs.ByteLayouts.{table, mask, columns, rule, book}
 use Rattle.words.specs.Words.{Bytes, Looked, word16At, endOf, readable}
 use Rattle.words.specs.declared.End.the-variants.{At, Short}
 use Rattle.words.proofs.Laws.{split, number16-read, number16-short, short-bad, ends-readable}
 use Rattle.fields.specs.Fields.{wellFramed}
 use Rattle.fields.proofs.Laws.{frame-refused, fields-refused, length-refused, fields-taken}
 use Rattle.terms.proofs.Laws.{looked-within, looked-above}
-use Rattle.book.specs.declared.Head.{Head}
-use Rattle.book.specs.declared.HeadRead.{HeadRead}
-use Rattle.book.specs.declared.HeadRead.the-variants as headRead
-use Rattle.book.specs.Books.{columnsFit, ruleOf, headThen, WellFormed}
+use Rattle.book.specs.Books.{columnsFit, WellFormed}
 
 -- ---- Masks
 
@@ -79,28 +74,6 @@ module _ (triggers : ℕ) (t : Bool) {r : ℕ} (e : t ≡ columnsFit triggers r)
 
   pub columns-refused : {s : List ℕ} {at : ℕ} → Looked s at r → not t ≡ true → columns triggers s at ≡ bad
   columns-refused l h = rw (columns-looked l triggers, ← e, not-true t h)
-
--- ---- The head of a rule that is read, by an answer of `head_at` at its place
-
-module _ (s : List ℕ) (at : ℕ) {read : HeadRead} {r : Rule} {next : ℕ} (e : headThen s at read ≡ got r next) where
-  pub head-read : {h : Head} → read ≡ headRead.Is h → ruleOf h (r .condition) (r .actions) ≡ r
-  unfolding headThen ruleOf
-  head-read {h} is =
-      on-from-got (condition (h .triggers) s (at + 1 + 1 + 1 + 1 + 2))
-      (λ q mid. onFrom (actions (h .triggers) s mid) (λ acts end. got (ruleOf h q acts) end))
-      (ap (headThen s at) (sym is) ∙ e)
-      (λ q mid _ rest.
-      on-from-got (actions (h .triggers) s mid) (λ acts end. got (ruleOf h q acts) end) rest
-      (λ acts end _ last.
-      let same : ruleOf h q acts ≡ r = same-value last in
-      ap (λ (x : Rule). ruleOf h (x .condition) (x .actions)) (sym same) ∙ same))
-
-  pub head-stands : read ≡ headRead.Bad → ⊥
-  unfolding headThen
-  head-stands is =
-      let none : bad ≡ got r next = ap (headThen s at) (sym is) ∙ e in
-      let z : _≡_ {A = ℕ} 0 1 = cc in
-      omega arith
 
 -- ---- The whole book, by the tests of its judge: in a right frame the step limit must stand there and be 1..1000, the rule count at most
 -- 16, and the rules well formed, ending where the slice ends

@@ -76,7 +76,7 @@ pub struct Head {
     pub precedes: usize,
 }
 
-pub enum HeadRead {
+enum HeadRead {
     Is { head: Head },
     Bad,
 }
@@ -295,7 +295,7 @@ fn names_rules(mask: usize, n: usize) -> bool
 }
 
 // What stands before the condition of a rule of a book of n: active, table, triggers, columns, precedes.
-pub fn head_at(s: &[u8], n: usize, at: usize) -> HeadRead
+fn head_at(s: &[u8], n: usize, at: usize) -> HeadRead
     requires { ⌜ n ≤ 16 ⌝ }
     ensures { λ r. ⌜ headThen (now (s .entry)) at r ≡ ByteLayouts.rule n (now (s .entry)) at ⌝ }
     ensures { λ r. ⌜ headEnd at r ≤ length (now (s .entry)) ⌝ }

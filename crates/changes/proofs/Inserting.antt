@@ -102,20 +102,20 @@ insertAll-space {xs} {tables} {s} table n sized p =
 
 -- ---- One insert
 
-module _ {xs tables : List ℕ} (table : ℕ) (e : Slot) (proper : Proper (rowMeant (insertedSlot xs table e)))
+module _ {xs : List ℕ} (table : ℕ) (e : Slot) (proper : Proper (rowMeant (insertedSlot xs table e)))
     (room : length (tableAt xs LIVE) < ROWS) (left : word32At xs NEXT < lastHandle) where
-  insert-joinable : Running xs tables → Joinable xs tables (asEffect 1 0 (insertedSlot xs table e))
+  insert-joinable : Running xs → Joinable xs (asEffect 1 0 (insertedSlot xs table e))
   unfolding insertedSlot rowOf
   insert-joinable run =
       let new = insertedSlot xs table e in
       joinable (run .reached) (run .represents) (fits-insert (run .represents) new refl proper room left) (says-insert new)
 
-  insert-moves : {ys : List ℕ} → Bytes ys → Inserted xs ys tables table e
-      → Moves xs ys tables (inserts (rowMeant (insertedSlot xs table e)) ∷ [])
+  insert-moves : {ys : List ℕ} → Bytes ys → Inserted xs ys table e
+      → Moves xs ys (inserts (rowMeant (insertedSlot xs table e)) ∷ [])
   unfolding insertedSlot rowOf
   insert-moves bytes t =
       let new = insertedSlot xs table e in
-      moves-one (inserts (rowMeant new)) t (λ start s r p.
+      moves-one (inserts (rowMeant new)) t (λ tables start s r p.
       let fits = fits-insert p new refl proper room left in
       (fits, turned-insert r p bytes new fits (omega arith) t))
 
@@ -140,9 +140,9 @@ inserted-proper xs bytes table t base i =
 
 -- ---- The loop
 
-pub record Inserting (xs zs tables : List ℕ) (table n left : ℕ) : Type 0 where
+pub record Inserting (xs zs : List ℕ) (table n left : ℕ) : Type 0 where
   pub few : left ≤ n
-  pub moves : Moves xs zs tables (take (n - left) (insertions xs table))
+  pub moves : Moves xs zs (take (n - left) (insertions xs table))
   pub live : length (tableAt zs LIVE) ≡ length (tableAt xs LIVE) + (n - left)
   pub next : word32At zs NEXT ≡ word32At xs NEXT + (n - left)
 
@@ -167,15 +167,15 @@ space-roomy xs n e = go (ltb mostRows live) refl (ltb lastHandle next) refl e
     go false p true q e = absurd (let z : _≡_ {A = ℕ} 0 1 = cc in omega arith)
     go false p false q e = record { live = ltb-false mostRows live p; next = ltb-false lastHandle next q }
 
-pub inserting-start : (xs tables : List ℕ) (table n : ℕ) → Inserting xs xs tables table n n
-inserting-start xs tables table n =
+pub inserting-start : (xs : List ℕ) (table n : ℕ) → Inserting xs xs table n n
+inserting-start xs table n =
     let z : n - n ≡ 0 = omega arith in
     record { few = omega arith; moves = rw z moves-none; live = omega arith; next = omega arith }
 
-module _ {xs zs tables : List ℕ} {table n left : ℕ} (run : Running xs tables) (t : table ≤ 3)
+module _ {xs zs : List ℕ} {table n left : ℕ} (run : Running xs) (t : table ≤ 3)
     (sized : n ≡ word32At xs WORKED) (space : spaceFor (length (tableAt xs LIVE)) (word32At xs NEXT) n ≡ Enough)
-    (inv : Inserting xs zs tables table n left) where
-  pub inserting-running : Running zs tables
+    (inv : Inserting xs zs table n left) where
+  pub inserting-running : Running zs
   inserting-running = moves-running run (inv .moves)
 
   worked-same : tableAt zs WORKED ≡ tableAt xs WORKED
@@ -199,7 +199,7 @@ module _ {xs zs tables : List ℕ} {table n left : ℕ} (run : Running xs tables
     pub inserting-handles : word32At zs NEXT < lastHandle
     inserting-handles = let r = space-roomy xs n space in omega (arith, inv .few, inv .next, r .next)
 
-    pub inserting-joinable : Joinable zs tables (asEffect 1 0 (insertedSlot zs k e))
+    pub inserting-joinable : Joinable zs (asEffect 1 0 (insertedSlot zs k e))
     inserting-joinable = insert-joinable k e proper inserting-room inserting-handles inserting-running
 
     is-next : getD (insertions xs table) (n - left) nothing ≡ inserts (rowMeant (insertedSlot zs k e))
@@ -209,7 +209,7 @@ module _ {xs zs tables : List ℕ} {table n left : ℕ} (run : Running xs tables
         let b : n - left < length (tableAt xs WORKED) = omega (arith, inv .few, table-length xs WORKED) in
         insertion-at xs table (n - left) b ∙ rw (read, q, worked-same, inv .next)
 
-    pub inserting-next : {ws : List ℕ} → Bytes ws → Inserted zs ws tables k e → Inserting xs ws tables table n (left - 1)
+    pub inserting-next : {ws : List ℕ} → Bytes ws → Inserted zs ws k e → Inserting xs ws table n (left - 1)
     inserting-next {ws} bytes t′ =
         let b : n - left < length (insertions xs table) = omega (arith, inv .few, table-length xs WORKED, insertions-length xs table) in
         let u = turn (inv .few) some in
@@ -224,34 +224,34 @@ module _ {xs zs tables : List ℕ} {table n left : ℕ} (run : Running xs tables
           next = omega (arith, t′ .handle, inv .next);
         }
 
-  pub inserting-done : left ≤ 0 → Acts xs zs tables (insertAll table (valuesIn xs)) Went
+  pub inserting-done : left ≤ 0 → Acts xs zs (insertAll table (valuesIn xs)) Went
   unfolding resultOf
   inserting-done none =
       let all : take (n - left) (insertions xs table) ≡ insertions xs table =
       take-all (n - left) (insertions xs table) (omega (arith, table-length xs WORKED, insertions-length xs table)) in
-      moves-acts (insertions xs table) run (rw all at (inv .moves)) (λ s p. insertAll-space table n sized p ∙ rw space)
+      moves-acts (insertions xs table) run (rw all at (inv .moves)) (λ tables s p. insertAll-space table n sized p ∙ rw space)
 
 -- ---- No space
 
-module _ {xs tables : List ℕ} (table n : ℕ) (run : Running xs tables) (sized : n ≡ word32At xs WORKED) where
+module _ {xs : List ℕ} (table n : ℕ) (run : Running xs) (sized : n ≡ word32At xs WORKED) where
   pub full-acts : spaceFor (length (tableAt xs LIVE)) (word32At xs NEXT) n ≡ Full
-      → Acts xs xs tables (insertAll table (valuesIn xs)) (Failed reason.Full)
+      → Acts xs xs (insertAll table (valuesIn xs)) (Failed reason.Full)
   unfolding resultOf Actions.fails
   full-acts e =
       record {
         laid = run .represents .laid;
         shown = refl;
         beyond = kept-refl;
-        follows = λ start s r p. rw (insertAll-space table n sized p, e) (fails {r = reason.Full} {os = []} (rw (madeAll-none s) p));
+        follows = λ tables start s r p. rw (insertAll-space table n sized p, e) (fails {r = reason.Full} {os = []} (rw (madeAll-none s) p));
       }
 
   pub used-up-acts : spaceFor (length (tableAt xs LIVE)) (word32At xs NEXT) n ≡ UsedUp
-      → Acts xs xs tables (insertAll table (valuesIn xs)) (Failed reason.HandlesUsedUp)
+      → Acts xs xs (insertAll table (valuesIn xs)) (Failed reason.HandlesUsedUp)
   unfolding resultOf Actions.fails
   used-up-acts e =
       record {
         laid = run .represents .laid;
         shown = refl;
         beyond = kept-refl;
-        follows = λ start s r p. rw (insertAll-space table n sized p, e) (fails {r = reason.HandlesUsedUp} {os = []} (rw (madeAll-none s) p));
+        follows = λ tables start s r p. rw (insertAll-space table n sized p, e) (fails {r = reason.HandlesUsedUp} {os = []} (rw (madeAll-none s) p));
       }

@@ -13,7 +13,7 @@ use Rattle.meaning.specs.Processing.Actions.{Result, went}
 use Rattle.meaning.proofs.Made.{Fits, Made, more, Made.none as noneMade}
 use Rattle.meaning.proofs.Lookups.{made-append}
 use Rattle.slots.specs.declared.Slot.{Slot}
-use Rattle.room.specs.Room.{INSERTED, WAITS, END, Kept}
+use Rattle.room.specs.Room.{INSERTED, STRETCH, END, Kept}
 use Rattle.room.specs.Turned.{Turned}
 use Rattle.room.specs.Represents.{Represents, Reached, Running, madeOne, madeAll}
 use Rattle.room.proofs.Kept.{kept-refl, kept-trans, transition-kept}
@@ -26,70 +26,71 @@ pub record Leads (ys tables : List ℕ) (os : List RowOperation) (s : State) : T
   pub made : Made (s .image) os
   pub represents : Represents ys tables (madeAll os s)
 
-pub record Moves (xs ys tables : List ℕ) (os : List RowOperation) : Type 0 where
-  pub between : Kept INSERTED WAITS xs ys
+pub record Moves (xs ys : List ℕ) (os : List RowOperation) : Type 0 where
+  pub between : Kept INSERTED STRETCH xs ys
   pub beyond : Kept END (length xs) xs ys
-  pub leads : (start : Image) (s : State) → Reached start s → Represents xs tables s → Leads ys tables os s
+  pub leads : (tables : List ℕ) (start : Image) (s : State) → Reached start s → Represents xs tables s → Leads ys tables os s
 
-pub moves-none : {xs tables : List ℕ} → Moves xs xs tables []
-moves-none {xs} {tables} =
+pub moves-none : {xs : List ℕ} → Moves xs xs []
+moves-none =
     record {
       between = kept-refl;
       beyond = kept-refl;
-      leads = λ start s r p. record { made = noneMade; represents = rw (madeAll-none s) p };
+      leads = λ tables start s r p. record { made = noneMade; represents = rw (madeAll-none s) p };
     }
 
-pub moves-one : {xs ys tables : List ℕ} {live : List Slot} {next : ℕ} {op : Slot} (o : RowOperation)
-    → Turned xs ys tables live next op
-    → ((start : Image) (s : State) → Reached start s → Represents xs tables s → Fits (s .image) o × Represents ys tables (madeOne o s))
-    → Moves xs ys tables (o ∷ [])
+pub moves-one : {xs ys : List ℕ} {live : List Slot} {next : ℕ} {op : Slot} (o : RowOperation)
+    → Turned xs ys live next op
+    → ((tables : List ℕ) (start : Image) (s : State) → Reached start s → Represents xs tables s → Fits (s .image) o × Represents ys tables (madeOne o s))
+    → Moves xs ys (o ∷ [])
 moves-one o t f =
     record {
       between = t .between;
       beyond = t .beyond;
-      leads = λ start s r p.
-          let g = f start s r p in
+      leads = λ tables start s r p.
+          let g = f tables start s r p in
           record { made = more (g .0) noneMade; represents = rw (madeAll-one o s) (g .1) };
     }
 
-pub moves-more : {xs ys zs tables : List ℕ} {os ps : List RowOperation} → Moves xs ys tables os → Moves ys zs tables ps
-    → Moves xs zs tables (os ++ ps)
+pub moves-more : {xs ys zs : List ℕ} {os ps : List RowOperation} → Moves xs ys os → Moves ys zs ps
+    → Moves xs zs (os ++ ps)
 unfolding madeAll
 moves-more {xs} {ys} {zs} {os = os} {ps = ps} f g =
     let same : length ys ≡ length xs = f .beyond .len in
     record {
       between = kept-trans (f .between) (g .between);
       beyond = kept-trans (f .beyond) (rw same at (g .beyond));
-      leads = λ start s r p.
-          let a = f .leads start s r p in
-          let b = g .leads start (madeAll os s) (reached-all r (a .made)) (a .represents) in
+      leads = λ tables start s r p.
+          let a = f .leads tables start s r p in
+          let b = g .leads tables start (madeAll os s) (reached-all r (a .made)) (a .represents) in
           record { made = made-append (a .made) (b .made); represents = rw (madeAll-append os ps s) (b .represents) };
     }
 
 -- the operation at a place, after all before it
-pub moves-next : {xs ys zs tables : List ℕ} (os : List RowOperation) (i : ℕ) (d o : RowOperation) → i < length os
-    → getD os i d ≡ o → Moves xs ys tables (take i os) → Moves ys zs tables (o ∷ []) → Moves xs zs tables (take (suc i) os)
+pub moves-next : {xs ys zs : List ℕ} (os : List RowOperation) (i : ℕ) (d o : RowOperation) → i < length os
+    → getD os i d ≡ o → Moves xs ys (take i os) → Moves ys zs (o ∷ []) → Moves xs zs (take (suc i) os)
 moves-next os i d o b e f g = rw (take-suc os i d b, e) (moves-more f g)
 
-pub moves-running : {xs ys tables : List ℕ} {os : List RowOperation} → Running xs tables → Moves xs ys tables os
-    → Running ys tables
+pub moves-running : {xs ys : List ℕ} {os : List RowOperation} → Running xs → Moves xs ys os
+    → Running ys
 moves-running {os = os} run f =
-    let l = f .leads (run .start) (run .state) (run .reached) (run .represents) in
+    let l = f .leads (run .tables) (run .start) (run .state) (run .reached) (run .represents) in
     record {
+      tables = run .tables;
       start = run .start;
       state = madeAll os (run .state);
       reached = reached-all (run .reached) (l .made);
       represents = l .represents;
     }
 
-pub moves-acts : {xs ys tables : List ℕ} (os : List RowOperation) {f : Image → Result} → Running xs tables
-    → Moves xs ys tables os → ((s : State) → Represents xs tables s → f (s .image) ≡ went os) → Acts xs ys tables f Went
+pub moves-acts : {xs ys : List ℕ} (os : List RowOperation) {f : Image → Result} → Running xs
+    → Moves xs ys os → ((tables : List ℕ) (s : State) → Represents xs tables s → f (s .image) ≡ went os) → Acts xs ys f Went
 moves-acts os run m is =
     record {
       laid = moves-running run m .represents .laid;
       shown = transition-kept (m .between) (run .represents .laid) (omega arith) (omega arith);
       beyond = m .beyond;
-      follows = λ start s r p. rw (is s p) (goesOn (m .leads start s r p .represents));
+      follows = λ tables start s r p. rw (is tables s p) (goesOn (m .leads tables start s r p .represents));
     }
 
 -- one less is left: one more is done

@@ -49,16 +49,16 @@ first : {rows rs : List Row} {r : Row} {low : ℕ} → Taken rows low (r ∷ rs)
 first (oneTaken a p q c) = record { found = q; proper = p; rest = c }
 
 -- an operation on it leaves the others as they were
-taken-after : {xs ys tables : List ℕ} {rs : List Row} (o : RowOperation) → Running xs tables → Moves xs ys tables (o ∷ [])
+taken-after : {xs ys : List ℕ} {rs : List Row} (o : RowOperation) → Running xs → Moves xs ys (o ∷ [])
     → Taken (liveRows xs) (handleOf o) rs → Taken (liveRows ys) (handleOf o) rs
 unfolding madeAll makeAll
-taken-after {xs} {ys} {tables} {rs} o run m c = go (l .made)
+taken-after {xs} {ys} {rs} o run m c = go (l .made)
   where
     s : State
     s = run .state
 
-    l : Leads ys tables (o ∷ []) s
-    l = m .leads (run .start) s (run .reached) (run .represents)
+    l : Leads ys (run .tables) (o ∷ []) s
+    l = m .leads (run .tables) (run .start) s (run .reached) (run .represents)
 
     go : MadeFrom (s .image) (o ∷ []) → Taken (liveRows ys) (handleOf o) rs
     go (more f k) =
@@ -69,34 +69,34 @@ taken-after {xs} {ys} {tables} {rs} o run m c = go (l .made)
 
 -- ---- One delete and one update
 
-made-delete : {xs ys tables : List ℕ} (i : ℕ) (a : Looked) → Deleted xs ys tables (At i) a
-    → Turned xs ys tables (removeAt i (tableAt xs LIVE)) (word32At xs NEXT) (operationAt xs 2 0 i)
+made-delete : {xs ys : List ℕ} (i : ℕ) (a : Looked) → Deleted xs ys (At i) a
+    → Turned xs ys (removeAt i (tableAt xs LIVE)) (word32At xs NEXT) (operationAt xs 2 0 i)
 made-delete i Made t = t
 made-delete i NoSuchRow t = absurd t
 
-made-update : {xs ys tables : List ℕ} (mask : ℕ) (new : Slot) (i : ℕ) (a : Looked) → Updated xs ys tables mask new (At i) a
-    → Turned xs ys tables (set (tableAt xs LIVE) i new) (word32At xs NEXT) (operationAt xs 3 mask i)
+made-update : {xs ys : List ℕ} (mask : ℕ) (new : Slot) (i : ℕ) (a : Looked) → Updated xs ys mask new (At i) a
+    → Turned xs ys (set (tableAt xs LIVE) i new) (word32At xs NEXT) (operationAt xs 3 mask i)
 made-update mask new i Made t = t
 made-update mask new i NoSuchRow t = absurd t
 
-module _ {xs tables : List ℕ} (run : Running xs tables) (r : Row) (live : rowAt (r .handle) (liveRows xs) ≡ some r) where
+module _ {xs : List ℕ} (run : Running xs) (r : Row) (live : rowAt (r .handle) (liveRows xs) ≡ some r) where
   place : Place (r .handle) (tableAt xs LIVE) r
   place = row-found (run .reached) (run .represents) (r .handle) (ap (rowAt (r .handle)) (sym (run .represents .rows)) ∙ live)
 
-  delete-can : CanJoin xs tables 2 0 (findIn (r .handle) (tableAt xs LIVE))
+  delete-can : CanJoin xs 2 0 (findIn (r .handle) (tableAt xs LIVE))
   unfolding operationAt
   delete-can =
       rw (place .found)
       (joinable (run .reached) (run .represents) (fits-delete (run .reached) (run .represents) (place .at) (place .below))
       (says-delete (getD (tableAt xs LIVE) (place .at) blank)))
 
-  delete-moves : {ys : List ℕ} (a : Looked) → Bytes ys → Deleted xs ys tables (findIn (r .handle) (tableAt xs LIVE)) a
-      → Moves xs ys tables (deletes r ∷ [])
+  delete-moves : {ys : List ℕ} (a : Looked) → Bytes ys → Deleted xs ys (findIn (r .handle) (tableAt xs LIVE)) a
+      → Moves xs ys (deletes r ∷ [])
   unfolding operationAt
   delete-moves a bytes d =
       let t = made-delete (place .at) a (rw (place .found) at d) in
       rw (← place .means)
-      (moves-one (deletes (rowMeant (getD (tableAt xs LIVE) (place .at) blank))) t (λ start s q p.
+      (moves-one (deletes (rowMeant (getD (tableAt xs LIVE) (place .at) blank))) t (λ tables start s q p.
       let fits = fits-delete q p (place .at) (place .below) in
       (fits, turned-delete q p bytes (place .at) (place .below) fits refl t)))
 
@@ -104,7 +104,7 @@ module _ {xs tables : List ℕ} (run : Running xs tables) (r : Row) (live : rowA
     only-there : OnlyIn mask (rowMeant (getD (tableAt xs LIVE) (place .at) blank)) (rowMeant new)
     only-there = rw (place .means) only
 
-    update-can : CanJoin xs tables 3 mask (findIn (r .handle) (tableAt xs LIVE))
+    update-can : CanJoin xs 3 mask (findIn (r .handle) (tableAt xs LIVE))
     unfolding operationAt
     update-can =
         rw (place .found)
@@ -112,26 +112,26 @@ module _ {xs tables : List ℕ} (run : Running xs tables) (r : Row) (live : rowA
         (fits-update (run .reached) (run .represents) (place .at) new (place .below) only-there proper)
         (says-update mask (getD (tableAt xs LIVE) (place .at) blank) new))
 
-    update-moves : {ys : List ℕ} (a : Looked) → Bytes ys → Updated xs ys tables mask new (findIn (r .handle) (tableAt xs LIVE)) a
-        → Moves xs ys tables (updates mask r (rowMeant new) ∷ [])
+    update-moves : {ys : List ℕ} (a : Looked) → Bytes ys → Updated xs ys mask new (findIn (r .handle) (tableAt xs LIVE)) a
+        → Moves xs ys (updates mask r (rowMeant new) ∷ [])
     unfolding operationAt
     update-moves a bytes d =
         let t = made-update mask new (place .at) a (rw (place .found) at d) in
         rw (← place .means)
-        (moves-one (updates mask (rowMeant (getD (tableAt xs LIVE) (place .at) blank)) (rowMeant new)) t (λ start s q p.
+        (moves-one (updates mask (rowMeant (getD (tableAt xs LIVE) (place .at) blank)) (rowMeant new)) t (λ tables start s q p.
         let fits = fits-update q p (place .at) new (place .below) only-there proper in
         (fits, turned-update q p bytes mask (place .at) new (place .below) fits refl t)))
 
 -- ---- The loops
 
 -- the rows that are left are still live
-pub record Taking (xs zs tables : List ℕ) (os : List RowOperation) (i : ℕ) : Type 0 where
-  pub moves : Moves xs zs tables (take i os)
+pub record Taking (xs zs : List ℕ) (os : List RowOperation) (i : ℕ) : Type 0 where
+  pub moves : Moves xs zs (take i os)
   pub low : ℕ
   pub taken : Taken (liveRows zs) low (drop i (rowsMeant (tableAt xs CHOSEN)))
 
-pub taking-start : {xs tables : List ℕ} (os : List RowOperation) → Taken (liveRows xs) 0 (rowsMeant (tableAt xs CHOSEN))
-    → Taking xs xs tables os 0
+pub taking-start : {xs : List ℕ} (os : List RowOperation) → Taken (liveRows xs) 0 (rowsMeant (tableAt xs CHOSEN))
+    → Taking xs xs os 0
 taking-start os c = record { moves = moves-none; low = 0; taken = c }
 
 -- the chosen row of a turn
@@ -144,9 +144,9 @@ rows-at i [] = refl
 rows-at zero (e ∷ l) = refl
 rows-at (suc i) (e ∷ l) = rows-at i l
 
-module _ {xs zs tables : List ℕ} {os : List RowOperation} {i : ℕ} (run : Running xs tables)
-    (inv : Taking xs zs tables os i) where
-  pub taking-running : Running zs tables
+module _ {xs zs : List ℕ} {os : List RowOperation} {i : ℕ} (run : Running xs)
+    (inv : Taking xs zs os i) where
+  pub taking-running : Running zs
   taking-running = moves-running run (inv .moves)
 
   chosen-same : tableAt zs CHOSEN ≡ tableAt xs CHOSEN
@@ -165,7 +165,7 @@ module _ {xs zs tables : List ℕ} {os : List RowOperation} {i : ℕ} (run : Run
       first (rw (drop-cons (rowsMeant l) i (rowMeant blank) h, rows-at i l) at (inv .taken))
 
   taking-next : {ws : List ℕ} (d o : RowOperation) → i < word32At xs CHOSEN → length os ≡ word32At xs CHOSEN → getD os i d ≡ o
-      → handleOf o ≡ chosenAt xs i .handle → Moves zs ws tables (o ∷ []) → Taking xs ws tables os (suc i)
+      → handleOf o ≡ chosenAt xs i .handle → Moves zs ws (o ∷ []) → Taking xs ws os (suc i)
   taking-next d o b len is same m =
       let h : i < length os = omega arith in
       record {
@@ -174,7 +174,7 @@ module _ {xs zs tables : List ℕ} {os : List RowOperation} {i : ℕ} (run : Run
         taken = taken-after o taking-running m (rw same (taking-first b .rest));
       }
 
-  taking-all : word32At xs CHOSEN ≤ i → length os ≡ word32At xs CHOSEN → Moves xs zs tables os
+  taking-all : word32At xs CHOSEN ≤ i → length os ≡ word32At xs CHOSEN → Moves xs zs os
   taking-all all len = rw (take-all i os (omega arith)) at (inv .moves)
 
 -- ---- Deletes
@@ -196,8 +196,8 @@ unfolding deletions
 deletions-length xs =
     length-map (rowsMeant (tableAt xs CHOSEN)) deletes ∙ rows-length (tableAt xs CHOSEN) ∙ table-length xs CHOSEN
 
-module _ {xs zs tables : List ℕ} {n i : ℕ} (run : Running xs tables) (sized : n ≡ word32At xs CHOSEN)
-    (inv : Taking xs zs tables (deletions xs) i) where
+module _ {xs zs : List ℕ} {n i : ℕ} (run : Running xs) (sized : n ≡ word32At xs CHOSEN)
+    (inv : Taking xs zs (deletions xs) i) where
   pub deleting-within : i < n → i < word32At zs CHOSEN
   deleting-within b = omega (arith, table-length zs CHOSEN, table-length xs CHOSEN, ap length (chosen-same run inv))
 
@@ -211,21 +211,21 @@ module _ {xs zs tables : List ℕ} {n i : ℕ} (run : Running xs tables) (sized 
     chosen-live : rowAt (chosenAt xs i .handle) (liveRows zs) ≡ some (chosenAt xs i)
     chosen-live = taking-first run inv (omega arith) .found
 
-    pub deleting-can : CanJoin zs tables 2 0 (findIn (e .handle) (tableAt zs LIVE))
+    pub deleting-can : CanJoin zs 2 0 (findIn (e .handle) (tableAt zs LIVE))
     deleting-can = rw handle-is (delete-can (taking-running run inv) (chosenAt xs i) chosen-live)
 
-    pub deleting-next : {ws : List ℕ} (a : Looked) → Bytes ws → Deleted zs ws tables (findIn (e .handle) (tableAt zs LIVE)) a
-        → Taking xs ws tables (deletions xs) (i + 1)
+    pub deleting-next : {ws : List ℕ} (a : Looked) → Bytes ws → Deleted zs ws (findIn (e .handle) (tableAt zs LIVE)) a
+        → Taking xs ws (deletions xs) (i + 1)
     unfolding deletions chosenAt handleOf
     deleting-next a bytes d =
         rw add-one
         (taking-next run inv nothing (deletes (chosenAt xs i)) (omega arith) (deletions-length xs) (deletes-at i (tableAt xs CHOSEN)) refl
         (delete-moves (taking-running run inv) (chosenAt xs i) chosen-live a bytes (rw handle-is at d)))
 
-  pub deleting-done : n ≤ i → Acts xs zs tables (λ m. deleteAll (rowsMeant (tableAt xs CHOSEN))) Went
+  pub deleting-done : n ≤ i → Acts xs zs (λ m. deleteAll (rowsMeant (tableAt xs CHOSEN))) Went
   unfolding deletions deleteAll
   deleting-done all =
-      moves-acts (deletions xs) run (taking-all run inv (omega arith) (deletions-length xs)) (λ s p. refl)
+      moves-acts (deletions xs) run (taking-all run inv (omega arith) (deletions-length xs)) (λ tables s p. refl)
 
 -- ---- Updates
 
@@ -297,22 +297,22 @@ module _ {xs : List ℕ} {mask : ℕ} (w : Rewritten xs mask) where
       (with-only mask i (rowMeant blank) rs (w .values) (w .each ∙ sym l) h)
 
 -- those left are counted down
-pub record Updating (xs zs tables : List ℕ) (mask n left : ℕ) : Type 0 where
+pub record Updating (xs zs : List ℕ) (mask n left : ℕ) : Type 0 where
   pub few : left ≤ n
-  pub taking : Taking xs zs tables (rewrites xs mask) (n - left)
+  pub taking : Taking xs zs (rewrites xs mask) (n - left)
 
-pub updating-start : {xs tables : List ℕ} (mask n : ℕ) → Taken (liveRows xs) 0 (rowsMeant (tableAt xs CHOSEN))
-    → Updating xs xs tables mask n n
+pub updating-start : {xs : List ℕ} (mask n : ℕ) → Taken (liveRows xs) 0 (rowsMeant (tableAt xs CHOSEN))
+    → Updating xs xs mask n n
 updating-start {xs} mask n c =
     let z : n - n ≡ 0 = omega arith in
     record { few = omega arith; taking = rw z (taking-start (rewrites xs mask) c) }
 
-module _ {xs zs tables : List ℕ} {mask n left : ℕ} (run : Running xs tables) (small : mask ≤ 15) (w : Rewritten xs mask)
-    (sizedWorked : n ≡ word32At xs WORKED) (inv : Updating xs zs tables mask n left) where
+module _ {xs zs : List ℕ} {mask n left : ℕ} (run : Running xs) (small : mask ≤ 15) (w : Rewritten xs mask)
+    (sizedWorked : n ≡ word32At xs WORKED) (inv : Updating xs zs mask n left) where
   sized : n ≡ word32At xs CHOSEN
   sized = sized-chosen w sizedWorked
 
-  pub updating-running : Running zs tables
+  pub updating-running : Running zs
   updating-running = taking-running run (inv .taking)
 
   pub updating-within : 0 < left → n - left < word32At zs WORKED
@@ -345,12 +345,12 @@ module _ {xs zs tables : List ℕ} {mask n left : ℕ} (run : Running xs tables)
     unfolding rowMeant
     found-same = ap (λ (h : ℕ). findIn h (tableAt zs LIVE)) (only .sameHandle)
 
-    pub updating-can : CanJoin zs tables 3 k (findIn (e .handle) (tableAt zs LIVE))
+    pub updating-can : CanJoin zs 3 k (findIn (e .handle) (tableAt zs LIVE))
     updating-can =
         rw (found-same, mask-is) (update-can updating-running (chosenAt xs (n - left)) (old .found) mask e only proper)
 
-    pub updating-next : {ws : List ℕ} (a : Looked) → Bytes ws → Updated zs ws tables k e (findIn (e .handle) (tableAt zs LIVE)) a
-        → Updating xs ws tables mask n (left - 1)
+    pub updating-next : {ws : List ℕ} (a : Looked) → Bytes ws → Updated zs ws k e (findIn (e .handle) (tableAt zs LIVE)) a
+        → Updating xs ws mask n (left - 1)
     unfolding rewrites chosenAt handleOf
     updating-next a bytes d =
         let r = chosenAt xs (n - left) in
@@ -365,11 +365,11 @@ module _ {xs zs tables : List ℕ} {mask n left : ℕ} (run : Running xs tables)
               (update-moves updating-running r (old .found) mask e only proper a bytes (rw (found-same, mask-is) at d)));
         }
 
-  pub updating-done : left ≤ 0 → UpdatesAll xs zs tables mask
+  pub updating-done : left ≤ 0 → UpdatesAll xs zs mask
   unfolding rewrites updateAll
   updating-done none =
       record {
         acts = λ vss each rows.
-            moves-acts (rewrites xs mask) run (taking-all run (inv .taking) (omega (arith, sized)) (rewrites-length w)) (λ s p.
+            moves-acts (rewrites xs mask) run (taking-all run (inv .taking) (omega (arith, sized)) (rewrites-length w)) (λ tables s p.
             ap went (updatesTo-with mask (rowsMeant (tableAt xs CHOSEN)) vss ∙ rw rows));
       }

@@ -34,11 +34,12 @@ pub data Follows (ys tables : List ℕ) (s : State) : Result → Step → Type 0
 
 -- the step that the specification says, for every state that the room represents; transition tables stay, and so does what stands past
 -- the tables
-pub record Acts (xs ys tables : List ℕ) (f : Image → Result) (r : Step) : Type 0 where
+pub record Acts (xs ys : List ℕ) (f : Image → Result) (r : Step) : Type 0 where
   pub laid : Laid ys
   pub shown : transitionIn ys ≡ transitionIn xs
   pub beyond : Kept END (length xs) xs ys
-  pub follows : (start : Image) (s : State) → Reached start s → Represents xs tables s → Follows ys tables s (f (s .image)) r
+  pub follows : (tables : List ℕ) (start : Image) (s : State) → Reached start s → Represents xs tables s
+      → Follows ys tables s (f (s .image)) r
 
 -- the values of the rows worked out
 unfoldable pub valuesIn : List ℕ → List (List ℤ)
@@ -51,7 +52,7 @@ pub record Rewritten (xs : List ℕ) (mask : ℕ) : Type 0 where
   pub rows : rowsMeant (tableAt xs WORKED) ≡ rowsWith mask (rowsMeant (tableAt xs CHOSEN)) values
 
 -- the update of the chosen rows, for whatever values they were worked out from
-pub record UpdatesAll (xs ys tables : List ℕ) (mask : ℕ) : Type 0 where
+pub record UpdatesAll (xs ys : List ℕ) (mask : ℕ) : Type 0 where
   pub acts : (vss : List (List ℤ)) → length vss ≡ length (tableAt xs CHOSEN)
       → rowsMeant (tableAt xs WORKED) ≡ rowsWith mask (rowsMeant (tableAt xs CHOSEN)) vss
-      → Acts xs ys tables (λ m. updateAll mask (rowsMeant (tableAt xs CHOSEN)) vss) Went
+      → Acts xs ys (λ m. updateAll mask (rowsMeant (tableAt xs CHOSEN)) vss) Went

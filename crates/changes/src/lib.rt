@@ -32,10 +32,10 @@ pub fn narrow(x: usize) -> u8
 }
 
 // Inserts a row for each that was worked out.
-pub fn insert_all(room: &mut [u8], tables: [u8; 16], table: usize) -> Step
-    requires { ⌜ Running (now room) tables ⌝ }
+pub fn insert_all(room: &mut [u8], table: usize) -> Step
+    requires { ⌜ Running (now room) ⌝ }
     requires { ⌜ table ≤ 3 ⌝ }
-    ensures { λ r. ⌜ Acts (now (room .entry)) (now (room .exit)) tables (insertAll table (valuesIn (now (room .entry)))) r ⌝ }
+    ensures { λ r. ⌜ Acts (now (room .entry)) (now (room .exit)) (insertAll table (valuesIn (now (room .entry)))) r ⌝ }
 {
     let n = slots::size(room, room::WORKED);
     match rows::space_for(room, n) {
@@ -50,40 +50,41 @@ pub fn insert_all(room: &mut [u8], tables: [u8; 16], table: usize) -> Step
     let mut left = n;
     while 0 < left {
         let e = slots::slot_at(room, room::WORKED, room::ROWS, n - left);
-        rows::insert_row(room, tables, narrow(table), e);
+        rows::insert_row(room, narrow(table), e);
         left -= 1;
     }
     Step::Went
 }
 
 // Deletes every chosen row.
-pub fn delete_all(room: &mut [u8], tables: [u8; 16])
-    requires { ⌜ Running (now room) tables ⌝ }
+pub fn delete_all(room: &mut [u8])
+    requires { ⌜ Running (now room) ⌝ }
     requires { ⌜ Taken (liveRows (now room)) 0 (rowsMeant (tableAt (now room) CHOSEN)) ⌝ }
-    ensures { λ _. ⌜ Acts (now (room .entry)) (now (room .exit)) tables (λ m. deleteAll (rowsMeant (tableAt (now (room .entry)) CHOSEN))) Step.Went ⌝ }
+    ensures { λ _. ⌜ Acts (now (room .entry)) (now (room .exit)) (λ m. deleteAll (rowsMeant (tableAt (now (room .entry)) CHOSEN)))
+        Step.Went ⌝ }
 {
     let n = slots::size(room, room::CHOSEN);
     let mut i: usize = 0;
     while i < n {
         let e = slots::slot_at(room, room::CHOSEN, room::ROWS, i);
-        rows::delete_row(room, tables, e.handle);
+        rows::delete_row(room, e.handle);
         i += 1;
     }
 }
 
 // Puts every row that was worked out in the place of its old one.
-pub fn update_all(room: &mut [u8], tables: [u8; 16], mask: usize)
-    requires { ⌜ Running (now room) tables ⌝ }
+pub fn update_all(room: &mut [u8], mask: usize)
+    requires { ⌜ Running (now room) ⌝ }
     requires { ⌜ mask ≤ 15 ⌝ }
     requires { ⌜ Taken (liveRows (now room)) 0 (rowsMeant (tableAt (now room) CHOSEN)) ⌝ }
     requires { ⌜ Rewritten (now room) mask ⌝ }
-    ensures { λ _. ⌜ UpdatesAll (now (room .entry)) (now (room .exit)) tables mask ⌝ }
+    ensures { λ _. ⌜ UpdatesAll (now (room .entry)) (now (room .exit)) mask ⌝ }
 {
     let n = slots::size(room, room::WORKED);
     let mut left = n;
     while 0 < left {
         let e = slots::slot_at(room, room::WORKED, room::ROWS, n - left);
-        rows::update_row(room, tables, words::wide(e.kind), narrow(mask), e);
+        rows::update_row(room, words::wide(e.kind), narrow(mask), e);
         left -= 1;
     }
 }

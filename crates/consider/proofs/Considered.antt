@@ -25,7 +25,7 @@ use Rattle.plan.proofs.Active.{low-own}
 use Rattle.room.specs.declared.Watch.{Watch}
 use Rattle.room.specs.Room.{END, Kept, watchRule, liveRows, transitionIn, waitsIn}
 use Rattle.room.specs.Drawn.{drawnFor, Drew}
-use Rattle.room.specs.Represents.{Represents, Reached}
+use Rattle.room.specs.Represents.{Settled, Reached}
 use Rattle.room.proofs.Kept.{kept-trans}
 use Rattle.room.proofs.Draws.{drawn-whole}
 use Rattle.room.proofs.Marks.{seen, reached-seen, drew}
@@ -41,6 +41,7 @@ use Rattle.consider.specs.Considers.{Considers}
 -- rule k of a plan is active, stands decoded, and its transition tables were drawn
 pub record Drawn (xs ys s : List ℕ) (plan : Plan) (k : ℕ) (rule : RuleStood) : Type 0 where
   pub low : k < 16
+  pub on : getD (plan .tables) k 0 ≤ 3
   pub own : getD (plan .tables) k 0 ≡ ruleMeant s rule .table
   pub listed : getElem? (rulesIn s (plan .count)) k ≡ some (ruleMeant s rule)
   pub watch : Watch
@@ -58,6 +59,7 @@ drawn {k = k} {w = w} low planned on e is of d bytes =
     let here = planned .placed k (low .1) in
     record {
       low = omega arith;
+      on = on;
       own = low-own here on ∙ ap (λ (r : Rule). r .table) (sym (read-listed here e is));
       listed = here .listed ∙ ap some (sym (read-listed here e is));
       watch = w;
@@ -68,35 +70,35 @@ drawn {k = k} {w = w} low planned on e is of d bytes =
     }
 
 module _ {xs ys s : List ℕ} {plan : Plan} {k : ℕ} {rule : RuleStood} (d : Drawn xs ys s plan k rule) where
-  tables-drawn : {start : Image} {state : State} → Reached start state → Represents xs (plan .tables) state
+  tables-drawn : {start : Image} {state : State} → Reached start state → Settled xs (plan .tables) state
       → transitionIn ys ≡ transition (ruleMeant s rule) (state .image .rows) (waits state k)
   unfolding drawnFor ruleMeant ruleOf
   tables-drawn reached p =
       d .drawing .tables
       ∙ transition-watch (d .watch) (ruleMeant s rule) (d .table) (d .columns) (liveRows xs) (waitsIn xs k)
-      ∙ drawn-whole p k (d .low) (ruleMeant s rule) (d .own) reached
+      ∙ drawn-whole p k (d .low) (d .on) (ruleMeant s rule) (d .own) reached
 
-  considers-drawn : {start : Image} {state : State} → Reached start state → Represents xs (plan .tables) state
+  considers-drawn : {start : Image} {state : State} → Reached start state → Settled xs (plan .tables) state
       → consider (rulesIn s (plan .count)) state k ≡ considerWith (transitionIn ys) (ruleMeant s rule) (state .image)
   unfolding consider considerRule
   considers-drawn reached p = rw (d .listed, ← tables-drawn reached p)
 
-  -- the room then represents the state that has seen all operations so far
-  after : {state : State} → Represents xs (plan .tables) state → k < length (state .marks) → Represents ys (plan .tables) (seen state k)
+  -- the room then represents the state that has seen all operations so far, and all is settled
+  after : {state : State} → Settled xs (plan .tables) state → k < length (state .marks) → Settled ys (plan .tables) (seen state k)
   after p mark = drew p (d .drawing) (d .bytes) mark
 
   module _ {b : Bool} (is : b ≡ conditionHolds (transitionIn ys) (liveRows ys) (conditionMeant s (rule .head .triggers) (rule .condition)))
     where
-      considers-when : {start : Image} {state : State} → Reached start state → Represents xs (plan .tables) state
+      considers-when : {start : Image} {state : State} → Reached start state → Settled xs (plan .tables) state
           → k < length (state .marks)
           → consider (rulesIn s (plan .count)) state k
           ≡ if b then runActions (transitionIn ys) (actionsMeant s (rule .head .triggers) (rule .actions)) (state .image) else went []
       unfolding considerWith ruleMeant ruleOf seen
-      considers-when reached p mark = rw (considers-drawn reached p, ← after p mark .rows, ← is)
+      considers-when reached p mark = rw (considers-drawn reached p, ← after p mark .represents .rows, ← is)
 
       -- the condition holds, and the actions run
       pub considers-acts : b ≡ true → {zs : List ℕ} {r : Step}
-          → Acts ys zs (plan .tables) (runActions (transitionIn ys) (actionsMeant s (rule .head .triggers) (rule .actions))) r
+          → Acts ys zs (runActions (transitionIn ys) (actionsMeant s (rule .head .triggers) (rule .actions))) r
           → Considers xs zs s plan k r
       unfolding seen
       considers-acts held {zs} acts =
@@ -105,7 +107,8 @@ module _ {xs ys s : List ℕ} {plan : Plan} {k : ℕ} {rule : RuleStood} (d : Dr
             laid = acts .laid;
             beyond = kept-trans (d .drawing .beyond) kept;
             follows = λ start state reached p mark.
-                rw (considers-when reached p mark, held) (acts .follows start (seen state k) (reached-seen reached k) (after p mark));
+                rw (considers-when reached p mark, held)
+                (acts .follows (plan .tables) start (seen state k) (reached-seen reached k) (after p mark .represents));
           }
 
       -- it does not, and nothing more is done
@@ -115,5 +118,5 @@ module _ {xs ys s : List ℕ} {plan : Plan} {k : ℕ} {rule : RuleStood} (d : Dr
             laid = d .drawing .laid;
             beyond = d .drawing .beyond;
             follows = λ start state reached p mark.
-                rw (considers-when reached p mark, off) (goesOn {os = []} (rw (madeAll-none (seen state k)) (after p mark)));
+                rw (considers-when reached p mark, off) (goesOn {os = []} (rw (madeAll-none (seen state k)) (after p mark .represents)));
           }

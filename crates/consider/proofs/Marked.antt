@@ -1,18 +1,16 @@
 -- A room in which a rule's transition tables were drawn still represents a state that a run reaches. The state before may have no mark for
 -- the rule: one with marks at 0 behind the others stands for it, since a missing mark counts as 0.
-use mathlib.Core.Path.{_≡_, refl, sym, ap, _∙_}
+use mathlib.Core.Path.{_≡_, refl}
 use mathlib.Core.List.{List, [], _∷_, _++_}
 use Prim.Native.Nat.{ℕ, zero, suc, _<_}
 use native.Mathlib.Omega.{arith}
-use lib.ListN.{length, getD, drop, replicate, length-append, length-replicate}
+use lib.ListN.{length, getD, replicate, length-append, length-replicate}
 use Rattle.meaning.specs.Covers.{Rule, Image}
-use Rattle.meaning.specs.RowOperations.{netEffect}
-use Rattle.meaning.specs.Processing.{State, since, waits}
-use Rattle.meaning.proofs.OwnTable.{ownOf}
+use Rattle.meaning.specs.Processing.{State}
 use Rattle.words.specs.Words.{Bytes}
 use Rattle.words.proofs.Laws.{all-same}
 use Rattle.room.specs.Drawn.{Drew}
-use Rattle.room.specs.Represents.{Represents, Reached, Running}
+use Rattle.room.specs.Represents.{Settled, Reached, Running, Ready}
 use Rattle.room.proofs.Marks.{seen, reached-seen, drew}
 
 -- marks at 0 that follow count for no more than missing ones
@@ -29,10 +27,6 @@ marked-long : (s : State) (k : ℕ) → k < length (marked s k .marks)
 unfolding marked
 marked-long s k = simp (length-append, length-replicate) (omega arith)
 
-marked-waits : (s : State) (k j : ℕ) → waits (marked s k) j ≡ waits s j
-unfolding marked waits since
-marked-waits s k j = ap (λ (m : ℕ). netEffect (drop m (s .done))) (zeros-follow (s .marks) (suc k) j)
-
 marked-reached : {start : Image} {s : State} → Reached start s → (k : ℕ) → Reached start (marked s k)
 unfolding marked
 marked-reached {s = s} r k =
@@ -43,24 +37,34 @@ marked-reached {s = s} r k =
       marked = λ j. rw (zeros-follow (s .marks) (suc k) j) (r .marked j);
     }
 
-marked-represents : {s : State} {xs tables : List ℕ} → Represents xs tables s → (k : ℕ) → Represents xs tables (marked s k)
+marked-settled : {s : State} {xs tables : List ℕ} → Settled xs tables s → (k : ℕ) → Settled xs tables (marked s k)
 unfolding marked
-marked-represents {s} {tables = tables} p k =
+marked-settled {s} {tables = tables} p k =
+    let r = p .represents in
     record {
-      laid = p .laid;
-      bytes = p .bytes;
-      next = p .next;
-      rows = p .rows;
-      ended = p .ended;
-      waiting = λ j b. p .waiting j b ∙ ap (ownOf (getD tables j 0)) (sym (marked-waits s k j));
+      represents =
+          record {
+            laid = r .laid;
+            bytes = r .bytes;
+            next = r .next;
+            rows = r .rows;
+            ended = r .ended;
+            joined = r .joined;
+            since = r .since;
+            whole = r .whole;
+            marked = λ j. rw (zeros-follow (s .marks) (suc k) j) (r .marked j);
+            waiting = λ j b a. rw (zeros-follow (s .marks) (suc k) j) (r .waiting j b a);
+            stretch = r .stretch;
+          };
+      none = p .none;
     }
 
-pub running-drawn : {xs ys tables : List ℕ} {k : ℕ} {rule : Rule} → Running xs tables → Drew xs ys k rule → Bytes ys
-    → Running ys tables
-running-drawn {k = k} run d bytes =
+pub running-drawn : {xs ys tables : List ℕ} {k : ℕ} {rule : Rule} → Ready xs tables → Drew xs ys k rule → Bytes ys → Running ys
+running-drawn {tables = tables} {k = k} ready d bytes =
     record {
-      start = run .start;
-      state = seen (marked (run .state) k) k;
-      reached = reached-seen (marked-reached (run .reached) k) k;
-      represents = drew (marked-represents (run .represents) k) d bytes (marked-long (run .state) k);
+      tables = tables;
+      start = ready .start;
+      state = seen (marked (ready .state) k) k;
+      reached = reached-seen (marked-reached (ready .reached) k) k;
+      represents = drew (marked-settled (ready .settled) k) d bytes (marked-long (ready .state) k) .represents;
     }

@@ -5,21 +5,19 @@ use mathlib.Core.Bool.{Bool, true, false}
 use mathlib.Core.List.{List, [], _∷_, _++_}
 use Prim.Native.Nat.{ℕ, zero, suc, _≤_, _<_}
 use native.Mathlib.Omega.{arith}
-use borrow.Author.Tests.{eq-eqb, ne-eqb, ltb-true, ltb-false, eqb-true, eqb-false}
+use borrow.Author.Tests.{eq-eqb, ne-eqb, ltb-true, ltb-false, eqb-true}
 use lib.Bits.{bitOr}
 use lib.Dec.{eqb, ltb}
-use lib.ListN.{length, getD, take, drop, set, length-set}
+use lib.ListN.{length, getD, take, drop, set}
 use lib.Seq.{drop-cons, set-split, set-getD}
 use Rattle.meaning.specs.Base.{if_then_else_}
 use Rattle.meaning.specs.RowOperations.{joinKind, joinTable}
 use Rattle.words.specs.Words.{word32At}
-use Rattle.words.proofs.Laws.{split}
 use Rattle.slots.specs.declared.Slot.{Slot}
-use Rattle.slots.specs.declared.Found.the-variants.{At, Nothing}
-use Rattle.slots.specs.Slots.{tableAt, insertAt, removeAt, placeIn, hit, findIn, blank, Stands, Holds, Sorted}
+use Rattle.slots.specs.Slots.{tableAt, insertAt, removeAt, placeIn, hit, blank, Stands, Holds, Sorted}
 use Rattle.slots.proofs.Frames.{frame-refl}
 use Rattle.slots.proofs.Tables.{table-length}
-use Rattle.slots.proofs.Order.{place-is, find-nothing, insert-length, remove-length, sorted-insert, sorted-remove, sorted-set}
+use Rattle.slots.proofs.Order.{place-is, insert-length}
 use Rattle.room.specs.Joins.{asEffect, joinedSlot, joinSlot, keptSlot, joinSlots, Takes}
 
 -- ---- Of slots alone: what an update leaves as it was
@@ -114,24 +112,6 @@ module _ (op : Slot) (l : List Slot) (i : ℕ) (at : i ≡ placeIn (op .handle) 
           rw (drop-cons l i blank b, e)
       by false t = rw (drop-past l i (ltb-false i (length l) t))
 
--- what holds of each of the three holds of the joined table
-join-cases : (P : List Slot → Type 0) (op : Slot) (l : List Slot)
-    → (hit (op .handle) (placeIn (op .handle) l) l ≡ true → P (removeAt (placeIn (op .handle) l) l))
-    → (hit (op .handle) (placeIn (op .handle) l) l ≡ true
-    → P (set l (placeIn (op .handle) l) (joinSlot (getD l (placeIn (op .handle) l) blank) op)))
-    → (hit (op .handle) (placeIn (op .handle) l) l ≡ false → P (insertAt (placeIn (op .handle) l) op l)) → P (joinSlots op l)
-join-cases P op l gone put more =
-    let i : ℕ = placeIn (op .handle) l in
-    let x : Slot = joinSlot (getD l i blank) op in
-    split (hit (op .handle) i l)
-    (λ q.
-    split (eqb (x .kind) 0)
-    (λ k. rw (join-removes op l i refl q (eqb-true (x .kind) 0 k)) (gone q))
-    (λ k. rw (join-sets op l i refl q (eqb-false (x .kind) 0 k)) (put q)))
-    (λ q. rw (join-inserts op l i refl q) (more q))
-
--- ---- The order is kept, and at most one slot comes
-
 -- slots of the same handle join to one of that handle
 pub joined-handle : (e op : Slot) → e .handle ≡ op .handle → joinSlot e op .handle ≡ e .handle
 unfolding joinSlot joinedSlot asEffect
@@ -146,31 +126,6 @@ joined-handle e op q =
     by false true v = refl
     by false false true = refl
     by false false false = refl
-
-hit-false : (h : ℕ) (l : List Slot) → hit h (placeIn h l) l ≡ false → findIn h l ≡ Nothing
-unfolding hit findIn
-hit-false h l q = by (ltb (placeIn h l) (length l)) (eqb (getD l (placeIn h l) blank .handle) h) q
-  where
-    by : (t u : Bool) → (if t then u else false) ≡ false → (if t then (if u then At (placeIn h l) else Nothing) else Nothing) ≡ Nothing
-    by true true e = absurd (let z : _≡_ {A = ℕ} 0 1 = cc in omega arith)
-    by true false e = refl
-    by false u e = refl
-
-pub join-sorted : (op : Slot) (l : List Slot) → Sorted l → Sorted (joinSlots op l)
-join-sorted op l s =
-    let i : ℕ = placeIn (op .handle) l in
-    join-cases Sorted op l
-    (λ q. sorted-remove i l s)
-    (λ q. sorted-set i _ l s (joined-handle (getD l i blank) op (eqb-true _ _ (hit-true (op .handle) i l q .1))))
-    (λ q. sorted-insert op l s (find-nothing (op .handle) l s (hit-false (op .handle) l q)))
-
-pub join-length : (op : Slot) (l : List Slot) → length (joinSlots op l) ≤ suc (length l)
-join-length op l =
-    let i : ℕ = placeIn (op .handle) l in
-    join-cases (λ m. length m ≤ suc (length l)) op l
-    (λ q. omega (arith, remove-length i l (hit-true (op .handle) i l q .0)))
-    (λ q. simp length-set (omega arith))
-    (λ q. omega (arith, insert-length i op l))
 
 -- ---- Of a table in the room
 

@@ -12,3 +12,7 @@ kind-in a b j d q h = rw (← q) (getD-any joinTable j d 4 h)
 pub kind-past : (a b : ℕ) → 16 ≤ a * 4 + b → 4 ≡ joinKind a b
 unfolding joinKind joinTable
 kind-past a b h = sym (List·getD-eq-default joinTable 4 h)
+
+-- of kinds that were read
+pub kind-of : {a b u v k : ℕ} → u ≡ a → v ≡ b → k ≡ joinKind u v → joinKind a b ≡ k
+kind-of p q r = sym (rw (← p, ← q) r)

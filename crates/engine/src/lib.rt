@@ -53,7 +53,8 @@ fn put_numbers(out: &mut [u8], rules: [u8; 16], n: usize)
 // A run. A refusal and nothing changed; or the outcome and the number of considerations, the image at the
 // front of the output, later bytes untouched, and the first 65,536 bytes of working room zero.
 pub fn run(image: &[u8], book: &[u8], log: &[u8], out: &mut [u8], room: &mut [u8]) -> Answer
-    ensures { λ r. ⌜ Runs (now (image .entry)) (now (book .entry)) (now (log .entry)) (now (out .entry)) (now (out .exit)) (now (room .entry)) (now (room .exit)) r ⌝ }
+    ensures { λ r. ⌜ Runs (now (image .entry)) (now (book .entry)) (now (log .entry)) (now (out .entry)) (now (out .exit))
+        (now (room .entry)) (now (room .exit)) r ⌝ }
 {
     if out.len() < transaction::OUTPUT {
         return Answer::Refused(Refusal::Output);

@@ -9,7 +9,7 @@ use lib.ListN.{length}
 use Rattle.slots.specs.Slots.{tableAt, tableBytes, Frame, Stands, Holds}
 use Rattle.slots.proofs.Frames.{frame-refl, frame-wider, frame-join}
 use Rattle.slots.proofs.Tables.{table-kept-below, stands-kept-below}
-use Rattle.room.specs.Room.{LIVE, INSERTED, DELETED, NEW, OLD, CHOSEN, WORKED, WAITS, END, ROWS, ENTRIES, waitAt}
+use Rattle.room.specs.Room.{LIVE, INSERTED, DELETED, NEW, OLD, CHOSEN, WORKED, WAITS, STRETCH, END, ROWS, ENTRIES, waitAt}
 use Rattle.transition.specs.Shown.{Emptied as TablesEmptied}
 use Rattle.loading.specs.Steps.{NoneWaits, Emptied}
 
@@ -59,14 +59,15 @@ module _ {xs x : List ℕ} (k : ℕ) (up : Upto xs x k) where
 
 -- ---- Every table
 
-pub all-emptied : {x0 x1 x2 x3 x4 x5 : List ℕ} → END ≤ length x0 → Holds LIVE ROWS x0 x1 [] → TablesEmptied x1 x2
-    → Holds CHOSEN ROWS x2 x3 [] → Holds WORKED ROWS x3 x4 [] → NoneWaits x4 x5 → Emptied x0 x5
+pub all-emptied : {x0 x1 x2 x3 x4 x5 x6 : List ℕ} → END ≤ length x0 → Holds LIVE ROWS x0 x1 [] → TablesEmptied x1 x2
+    → Holds CHOSEN ROWS x2 x3 [] → Holds WORKED ROWS x3 x4 [] → NoneWaits x4 x5 → Holds STRETCH ENTRIES x5 x6 [] → Emptied x0 x6
 unfolding tableBytes
-all-emptied {x0} {x1} {x2} {x3} {x4} {x5} long a t b c w =
-    let f4 : Frame WORKED END x3 x5 = frame-join (c .frame) (w .frame) (omega arith) (omega arith) (omega arith) (omega arith) in
-    let f3 : Frame CHOSEN END x2 x5 = frame-join (b .frame) f4 (omega arith) (omega arith) (omega arith) (omega arith) in
-    let f2 : Frame INSERTED END x1 x5 = frame-join (t .frame) f3 (omega arith) (omega arith) (omega arith) (omega arith) in
-    let f1 : Frame LIVE END x0 x5 = frame-join (a .frame) f2 (omega arith) (omega arith) (omega arith) (omega arith) in
+all-emptied {x0} {x1} {x2} {x3} {x4} {x5} {x6} long a t b c w d =
+    let f5 : Frame WAITS END x4 x6 = frame-join (w .frame) (d .frame) (omega arith) (omega arith) (omega arith) (omega arith) in
+    let f4 : Frame WORKED END x3 x6 = frame-join (c .frame) f5 (omega arith) (omega arith) (omega arith) (omega arith) in
+    let f3 : Frame CHOSEN END x2 x6 = frame-join (b .frame) f4 (omega arith) (omega arith) (omega arith) (omega arith) in
+    let f2 : Frame INSERTED END x1 x6 = frame-join (t .frame) f3 (omega arith) (omega arith) (omega arith) (omega arith) in
+    let f1 : Frame LIVE END x0 x6 = frame-join (a .frame) f2 (omega arith) (omega arith) (omega arith) (omega arith) in
     record {
       frame = f1;
       laid =
@@ -78,9 +79,11 @@ all-emptied {x0} {x1} {x2} {x3} {x4} {x5} long a t b c w =
             new = stands-kept-below f3 NEW ROWS (t .new .stands) (omega arith);
             old = stands-kept-below f3 OLD ROWS (t .old .stands) (omega arith);
             chosen = stands-kept-below f4 CHOSEN ROWS (b .stands) (omega arith);
-            worked = stands-kept-below (w .frame) WORKED ROWS (c .stands) (omega arith);
-            waits = w .stands;
+            worked = stands-kept-below f5 WORKED ROWS (c .stands) (omega arith);
+            waits = λ k h. stands-kept-below (d .frame) (waitAt k) ENTRIES (w .stands k h) (omega arith);
+            stretch = d .stands;
           };
       live = table-kept-below f2 LIVE ROWS (a .stands) (omega arith) ∙ a .list;
-      waits = w .empty;
+      waits = λ k h. table-kept-below (d .frame) (waitAt k) ENTRIES (w .stands k h) (omega arith) ∙ w .empty k h;
+      stretch = d .list;
     }

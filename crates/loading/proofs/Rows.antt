@@ -20,7 +20,7 @@ use Rattle.image.specs.Images.{rowOr, WellFormed}
 use Rattle.image.specs.Images as Images
 use Rattle.image.proofs.Laws.{row-is, row-ends}
 use Rattle.image.proofs.Whole.{laid, rows-are}
-use Rattle.room.specs.Room.{NEXT, LIVE, INSERTED, ROWS, ENTRIES, waitAt, rowMeant, rowsMeant, liveRows}
+use Rattle.room.specs.Room.{NEXT, LIVE, INSERTED, STRETCH, ROWS, ENTRIES, waitAt, rowMeant, rowsMeant, liveRows}
 use Rattle.room.proofs.Kept.{laid-front}
 use Rattle.room.proofs.Live.{rows-pushed}
 use Rattle.loading.specs.Loads.{Loaded, Loads}
@@ -135,6 +135,7 @@ loading-done {s} {x0} {x1} {x2} {x} {next} {count} {left} {here} w p e c done =
           next = word-kept-below (c .frame) NEXT (omega arith) ∙ word-kept-below (e .frame) NEXT (omega arith) ∙ p .same;
           rows = sym (append-nil (liveRows x)) ∙ rw (← none-left) (sym (c .all) ∙ rows-are w);
           empty = λ k b. table-kept-above (c .frame) (waitAt k) ENTRIES (e .laid .waits k b) (omega arith) ∙ e .waits k b;
+          stretch = table-kept-above (c .frame) STRETCH ENTRIES (e .laid .stretch) (omega arith) ∙ e .stretch;
           beyond =
               record {
                 len = c .frame .len ∙ e .frame .len ∙ p .frame .len;

@@ -10,4 +10,4 @@ use Rattle.loading.specs.Loads.{Loaded}
 
 pub loaded-represents : (rules : List Rule) {start : Image} {xs ys tables : List ℕ} → Loaded start xs ys → Bytes ys → Ended tables
     → Represents ys tables (starting rules start)
-loaded-represents rules l bytes ended = represents-starting rules (l .laid) bytes (l .next) (l .rows) (l .empty) ended
+loaded-represents rules l bytes ended = represents-starting rules (l .laid) bytes (l .next) (l .rows) (l .empty) (l .stretch) ended

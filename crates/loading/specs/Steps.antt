@@ -7,22 +7,23 @@ use Rattle.meaning.specs.Covers.{Row}
 use Rattle.meaning.specs.ByteLayouts as ByteLayouts
 use Rattle.words.specs.Words.{word32At}
 use Rattle.slots.specs.Slots.{tableAt, Frame, Stands}
-use Rattle.room.specs.Room.{LIVE, INSERTED, WAITS, END, ROWS, ENTRIES, waitAt, Laid, liveRows}
+use Rattle.room.specs.Room.{LIVE, INSERTED, WAITS, STRETCH, END, ROWS, ENTRIES, waitAt, Laid, liveRows}
 
 -- ---- Emptying
 
 -- nothing waits for any rule, and nothing else changed
 pub record NoneWaits (xs ys : List ℕ) : Type 0 where
-  pub frame : Frame WAITS END xs ys
+  pub frame : Frame WAITS STRETCH xs ys
   pub stands : (k : ℕ) → k < 16 → Stands (waitAt k) ENTRIES ys
   pub empty : (k : ℕ) → k < 16 → tableAt ys (waitAt k) ≡ []
 
--- every table stands, no row is live, nothing waits for any rule, and nothing but the tables changed
+-- every table stands, no row is live, nothing waits for any rule or was done since, and nothing but the tables changed
 pub record Emptied (xs ys : List ℕ) : Type 0 where
   pub frame : Frame LIVE END xs ys
   pub laid : Laid ys
   pub live : tableAt ys LIVE ≡ []
   pub waits : (k : ℕ) → k < 16 → tableAt ys (waitAt k) ≡ []
+  pub stretch : tableAt ys STRETCH ≡ []
 
 -- ---- A row
 

@@ -31,6 +31,7 @@ fn empty_all(room: &mut [u8])
     slots::empty(room, room::CHOSEN, room::ROWS);
     slots::empty(room, room::WORKED, room::ROWS);
     empty_waits(room);
+    slots::empty(room, room::STRETCH, room::ENTRIES);
 }
 
 // The row of an image at a place joins the live rows.

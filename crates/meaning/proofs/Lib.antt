@@ -19,6 +19,7 @@ pub mod NetEffects
 pub mod Lives
 pub mod Capacity
 pub mod OwnTable
+pub mod Stretches
 -- The operations of a run fit
 pub mod Traces
 pub mod ActionsFit

@@ -17,7 +17,7 @@ use Rattle.meaning.specs.RowOperations.{effectOf, single, joinedOn, net}
 use Rattle.meaning.specs.Trace.{union, maskOn, masksOn, deletedIn, fromOutside, OnlyIn, Differs, stays, comes, goes, changes}
 use Rattle.meaning.specs.Theorems.{reachable}
 use Rattle.meaning.proofs.Made.{Sound, Fits, insertFits, deleteFits, updateFits, Made, more, Made.none as noneMade}
-use Rattle.meaning.proofs.Lists.{true-is-false, clash, eqb-self}
+use Rattle.meaning.proofs.Lists.{clash, eqb-self}
 use Rattle.meaning.proofs.Masks.{or-assoc, bit-or}
 use Rattle.meaning.proofs.JoinTable.{join-nothing}
 use Rattle.meaning.proofs.NetEffects.{single-other, single-own, net-one}
@@ -356,12 +356,6 @@ OfTable t (inserted u) = u ≡ t
 OfTable t (deleted r) = r .table ≡ t
 OfTable t (updated m r) = r .table ≡ t
 
--- the table whose row an operation inserts, deletes or updates
-unfoldable pub tableOf : RowOperation → ℕ
-tableOf (inserts r) = r .table
-tableOf (deletes r) = r .table
-tableOf (updates m old new) = old .table
-
 -- the row that a handle is at, or is gone from, is of the table
 abbrev InTable : ℕ → Life → Type 0
 InTable t notGiven = Unit {0}
@@ -379,17 +373,19 @@ between-table t (altered o) i = sym (o .sameTable) ∙ i
 between-table t left i = i
 between-table t ended i = tt
 
--- an operation finds its handle in its table, and leaves it there
-record InTables (t : ℕ) (s e : Life) : Type 0 where
-  found : InTable t s
-  kept : InTable t e
+-- where the handle is in the table at the end, it was at the start
+table-before : {h : ℕ} {s e : Life} {os : List RowOperation} (t : ℕ) → Lives h s os e → InTable t e → InTable t s
+table-before t rest i = i
+table-before t (other o n l) i = table-before t l i
+table-before t (born q l) i = tt
+table-before t (turns q o l) i = sym (o .sameTable) ∙ table-before t l i
+table-before t (dies q l) i = table-before t l i
 
-own-table : {s e : Life} (o : RowOperation) → Lives (handleOf o) s (o ∷ []) e → InTables (tableOf o) s e
-unfolding tableOf
-own-table o (other p n l) = true-is-false (eqb-self (handleOf o)) n
-own-table o (born q rest) = record { found = tt; kept = refl }
-own-table o (turns q d rest) = record { found = refl; kept = d .sameTable }
-own-table o (dies q rest) = record { found = refl; kept = refl }
+-- each is in some table
+some-table : (s : Life) → (t : ℕ) × InTable t s
+some-table notGiven = (0, tt)
+some-table (at r) = (r .table, refl)
+some-table (gone r) = (r .table, refl)
 
 -- ---- The laws, of operations that fit a sound image one after another
 
@@ -426,18 +422,22 @@ pub never-marked : {m : Image} (xs : List RowOperation) (o : RowOperation) (ys :
 never-marked xs o ys s k h =
     rw (← net-one h o) (never-marked-stretch xs (o ∷ []) s (made-front (xs ++ (o ∷ [])) ys (rw append-assoc k)) h)
 
--- what a stretch did to the handle of the operation after it is of the operation's table, and so is what both did
-pub record OneTable (xs : List RowOperation) (o : RowOperation) : Type 0 where
-  pub before : OfTable (tableOf o) (net (handleOf o) xs)
-  pub with-it : OfTable (tableOf o) (net (handleOf o) (xs ++ (o ∷ [])))
+-- what two stretches did to a handle is of one table, each and together
+pub record SameTable (h : ℕ) (xs ys : List RowOperation) : Type 0 where
+  pub table : ℕ
+  pub first : OfTable table (net h xs)
+  pub second : OfTable table (net h ys)
+  pub both : OfTable table (net h (xs ++ ys))
 
-pub one-table : {m : Image} (xs : List RowOperation) (o : RowOperation) → Sound m → Made m (xs ++ (o ∷ [])) → OneTable xs o
-one-table xs o s k =
-    let l = leads (made-front xs (o ∷ []) k) (somewhere s (handleOf o) .there) in
-    let n = leads (made-back xs (o ∷ []) k) (l .there) in
-    let i = own-table o (n .by) in
-    let both = lives-append (l .by) (n .by) in
+pub same-table : {m : Image} (xs ys : List RowOperation) → Sound m → Made m (xs ++ ys) → (h : ℕ) → SameTable h xs ys
+same-table xs ys s k h =
+    let l = leads (made-front xs ys k) (somewhere s h .there) in
+    let n = leads (made-back xs ys k) (l .there) in
+    let all = lives-append (l .by) (n .by) in
+    let (t, i) = some-table (n .reached) in
     record {
-      before = rw (net-between (l .by)) (between-table (tableOf o) (after (l .by)) (i .found));
-      with-it = rw (net-between both) (between-table (tableOf o) (after both) (i .kept));
+      table = t;
+      first = rw (net-between (l .by)) (between-table t (after (l .by)) (table-before t (n .by) i));
+      second = rw (net-between (n .by)) (between-table t (after (n .by)) i);
+      both = rw (net-between all) (between-table t (after all) i);
     }

@@ -201,16 +201,18 @@ eased : {low low′ : ℕ} {es : NetEffect} → low′ ≤ low → Listed low es
 eased l noEntry = noEntry
 eased {low′ = low′} l (oneEntry {p = p} a b c) = let d : low′ ≤ p .0 = omega arith in oneEntry {p = p} d b c
 
+-- an effect in front of those above it
+pub entry-listed : {low k : ℕ} {es : NetEffect} (e : Effect) → low ≤ k → Listed (suc k) es → Listed low (entry k e es)
+unfolding entry
+entry-listed nothing a r = eased (omega arith) r
+entry-listed {k = k} (inserted t) a r = oneEntry {p = (k, inserted t)} a (λ q. let z : _≡_ {A = ℕ} 0 1 = cc in omega arith) r
+entry-listed {k = k} (deleted x) a r = oneEntry {p = (k, deleted x)} a (λ q. let z : _≡_ {A = ℕ} 0 1 = cc in omega arith) r
+entry-listed {k = k} (updated m x) a r = oneEntry {p = (k, updated m x)} a (λ q. let z : _≡_ {A = ℕ} 0 1 = cc in omega arith) r
+
 entries-listed : {low : ℕ} {hs : List ℕ} (g : ℕ → Effect) → Rises low hs → Listed low (entries g hs)
-unfolding entry entries
+unfolding entries
 entries-listed g empty = noEntry
-entries-listed {low} g (above {h = h} {hs = hs} a r) = go (g h) (entries-listed g r)
-  where
-    go : (f : Effect) → Listed (suc h) (entries g hs) → Listed low (entry h f (entries g hs))
-    go nothing ih = eased (omega arith) ih
-    go (inserted t) ih = oneEntry {p = (h, inserted t)} a (λ q. let z : _≡_ {A = ℕ} 0 1 = cc in omega arith) ih
-    go (deleted x) ih = oneEntry {p = (h, deleted x)} a (λ q. let z : _≡_ {A = ℕ} 0 1 = cc in omega arith) ih
-    go (updated m x) ih = oneEntry {p = (h, updated m x)} a (λ q. let z : _≡_ {A = ℕ} 0 1 = cc in omega arith) ih
+entries-listed g (above {h = h} a r) = entry-listed (g h) a (entries-listed g r)
 
 pub netEffect-listed : (os : List RowOperation) → Listed 0 (netEffect os)
 unfolding netEffect named

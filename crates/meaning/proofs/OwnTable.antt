@@ -1,27 +1,23 @@
--- What a net effect says of one table. A handle never changes its table while operations fit, so an operation joins what is said of its
--- own table and leaves what is said of another; and of other tables a rule is not woken, nor does it draw a row.
-use mathlib.Core.Path.{_≡_, refl, sym, ap, _∙_}
-use mathlib.Core.Logic.{_≢_}
+-- What a net effect says of one table: by rising handle still, and of other tables a rule is not woken, nor does it draw a row.
+use mathlib.Core.Path.{_≡_, refl}
 use mathlib.Core.Bool.{Bool, true, false, _&&_}
-use mathlib.Core.List.{List, [], _∷_, _++_}
+use mathlib.Core.List.{List, [], _∷_}
 use mathlib.Core.Option.{Option, none, some}
-use Prim.Native.Nat.{ℕ, suc, _≤_, _<_}
+use Prim.Native.Nat.{ℕ, suc, _≤_}
 use native.Mathlib.Omega.{arith}
-use lib.Dec.{eqb, ltb}
+use lib.Dec.{eqb}
 use lib.ListN.{length}
-use borrow.Author.Tests.{eqb-true, eqb-false, ne-eqb, ltb-true, ltb-false, le-ltb}
-use Rattle.meaning.specs.Base.{if_then_else_, bit, any, select, before, gather}
+use Rattle.meaning.specs.Base.{if_then_else_, bit, any, select, gather}
 use Rattle.meaning.specs.Covers.{Row, Rule, Image}
-use Rattle.meaning.specs.RowOperations.{RowOperation, inserts, deletes, updates, handleOf, rowAt, makeAll, Effect, nothing}
-use Rattle.meaning.specs.RowOperations.{inserted, deleted, updated, NetEffect, join, effectOf, net, named, entry, entries, netEffect, effectAt}
+use Rattle.meaning.specs.RowOperations.{RowOperation, rowAt, makeAll, Effect, nothing}
+use Rattle.meaning.specs.RowOperations.{inserted, deleted, updated, NetEffect, net, named, entry, entries, netEffect}
 use Rattle.meaning.specs.Processing.TransitionTables.{ownTable, meets, wakes, ownRow, deletedRow, oldRow, liveRow}
 use Rattle.meaning.specs.Processing.TransitionTables.{insertedRow, newRow, transition}
 use Rattle.meaning.specs.Trace.{Differs, stays, comes, goes, changes}
-use Rattle.meaning.proofs.Lists.{Each, noElement, anElement, eqb-self}
+use Rattle.meaning.proofs.Lists.{Each, noElement, anElement}
 use Rattle.meaning.proofs.Made.{Sound, Made}
-use Rattle.meaning.proofs.NetEffects.{joinInto, joinOperation, Listed, noEntry, oneEntry, single-own, net-more, netEffect-more}
-use Rattle.meaning.proofs.NetEffects.{says-net, netEffect-listed}
-use Rattle.meaning.proofs.Lives.{OfTable, tableOf, one-table, differs}
+use Rattle.meaning.proofs.NetEffects.{Listed, noEntry, oneEntry}
+use Rattle.meaning.proofs.Lives.{differs}
 
 -- an effect is on a table
 unfoldable pub onTable : ℕ → Effect → Bool
@@ -61,103 +57,6 @@ own-above {low′ = low′} t l (oneEntry {p = p} {ps = ps} a b c) =
 
 pub own-listed : {low : ℕ} (t : ℕ) {es : NetEffect} → Listed low es → Listed low (ownOf t es)
 own-listed t l = own-above t (omega arith) l
-
--- ---- One operation more
-
--- an effect in front
-own-entry : (t k u : ℕ) (e : Effect) (es : NetEffect) → OfTable u e
-    → ownOf t (entry k e es) ≡ (if eqb u t then entry k e (ownOf t es) else ownOf t es)
-unfolding onTable ownOf entry
-own-entry t k u nothing es o = go (eqb u t)
-  where
-    go : (b : Bool) → ownOf t es ≡ (if b then ownOf t es else ownOf t es)
-    go true = refl
-    go false = refl
-own-entry t k u (inserted x) es o = rw o
-own-entry t k u (deleted r) es o = rw o
-own-entry t k u (updated m r) es o = rw o
-
--- what is of a table, and is something, is on it
-on-table : (t u : ℕ) (e : Effect) → OfTable u e → e ≢ nothing → onTable t e ≡ eqb u t
-unfolding onTable
-on-table t u nothing o n = absurd (n refl)
-on-table t u (inserted x) o n = rw o
-on-table t u (deleted r) o n = rw o
-on-table t u (updated m r) o n = rw o
-
--- an effect on a handle below all others comes in front
-join-below : {low : ℕ} {es : NetEffect} (k : ℕ) (e : Effect) → k < low → Listed low es → joinInto k e es ≡ entry k e es
-unfolding joinInto
-join-below k e l noEntry = refl
-join-below k e l (oneEntry {p = p} a b c) = rw (le-ltb (p .0) k (omega arith), ne-eqb (p .0) k (λ q. omega arith))
-
-module _ (t k u : ℕ) (e : Effect) (of : OfTable u e) where
-  -- the effect joined what is said of the table, if it is on it
-  abbrev Joined : NetEffect → NetEffect → Type 0
-  Joined es now = ownOf t now ≡ (if eqb u t then joinInto k e (ownOf t es) else ownOf t es)
-
-  own-join : {low : ℕ} {es : NetEffect} → Listed low es → OfTable u (effectAt k es) → OfTable u (join (effectAt k es) e)
-      → Joined es (joinInto k e es)
-  unfolding ownOf joinInto effectAt
-  own-join noEntry f g = own-entry t k u e [] of
-  own-join {low} (oneEntry {p = p} {ps = ps} a b c) f g = go (ltb (p .0) k) refl (eqb (p .0) k) refl (own-join c)
-    where
-      past : (d : Bool) → onTable t (p .1) ≡ d → (v : Bool) → eqb u t ≡ v → ltb (p .0) k ≡ true → Joined ps (joinInto k e ps)
-          → Joined (p ∷ ps) (p ∷ joinInto k e ps)
-      past true q true w l ih = rw (q, w, l) (ap (λ (x : NetEffect). p ∷ x) (rw w at ih))
-      past true q false w l ih = rw (q, w) (ap (λ (x : NetEffect). p ∷ x) (rw w at ih))
-      past false q v w l ih = rw q ih
-
-      at-k : (v : Bool) → eqb u t ≡ v → p .0 ≡ k → OfTable u (p .1) → OfTable u (join (p .1) e)
-          → Joined (p ∷ ps) (entry k (join (p .1) e) ps)
-      at-k true w s f g =
-          own-entry t k u (join (p .1) e) ps g ∙ rw (w, on-table t u (p .1) f b, w, s, le-ltb k k (omega arith), eqb-self k)
-      at-k false w s f g = own-entry t k u (join (p .1) e) ps g ∙ rw (w, on-table t u (p .1) f b, w)
-
-      front : k < p .0 → Joined (p ∷ ps) (entry k e (p ∷ ps))
-      front l =
-          let z : suc k ≤ p .0 = l in
-          let m : Listed (suc k) (p ∷ ps) = oneEntry {p = p} z b c in
-          own-entry t k u e (p ∷ ps) of ∙ rw (join-below k e (omega arith) (own-listed t m))
-
-      go : (d : Bool) → ltb (p .0) k ≡ d → (x : Bool) → eqb (p .0) k ≡ x
-          → (OfTable u (effectAt k ps) → OfTable u (join (effectAt k ps) e) → Joined ps (joinInto k e ps))
-          → Joined (p ∷ ps) (joinInto k e (p ∷ ps))
-      go true q x r ih =
-          let l = ltb-true (p .0) k q in
-          let n = ne-eqb (p .0) k (λ s. omega arith) in
-          rw q (past (onTable t (p .1)) refl (eqb u t) refl q (ih (rw n at f) (rw n at g)))
-      go false q true r ih = rw (q, r) (at-k (eqb u t) refl (eqb-true (p .0) k r) (rw r at f) (rw r at g))
-      go false q false r ih =
-          let l = ltb-false (p .0) k q in let n = eqb-false (p .0) k r in rw (q, r) (front (omega arith))
-
--- an operation's effect is of its table
-effect-table : (o : RowOperation) → OfTable (tableOf o) (effectOf o)
-unfolding effectOf tableOf
-effect-table (inserts r) = refl
-effect-table (deletes r) = refl
-effect-table (updates m old new) = refl
-
-effect-on : (t : ℕ) (o : RowOperation) → onTable t (effectOf o) ≡ eqb (tableOf o) t
-unfolding onTable effectOf tableOf
-effect-on t (inserts r) = refl
-effect-on t (deletes r) = refl
-effect-on t (updates m old new) = refl
-
-net-own : (os : List RowOperation) (o : RowOperation) → net (handleOf o) (os ++ (o ∷ [])) ≡ join (net (handleOf o) os) (effectOf o)
-net-own os o = net-more (handleOf o) os o ∙ ap (join (net (handleOf o) os)) (single-own (handleOf o) o (eqb-self (handleOf o)))
-
--- on the table it joins, on another nothing changes
-pub own-more : {m : Image} (t : ℕ) (os : List RowOperation) (o : RowOperation) → Sound m → Made m (os ++ (o ∷ []))
-    → ownOf t (netEffect (os ++ (o ∷ [])))
-    ≡ (if onTable t (effectOf o) then joinOperation o (ownOf t (netEffect os)) else ownOf t (netEffect os))
-unfolding joinOperation
-own-more t os o s k =
-    let h = handleOf o in
-    let one = one-table os o s k in
-    rw (netEffect-more os o, effect-on t o)
-    (own-join t h (tableOf o) (effectOf o) (effect-table o) (netEffect-listed os) (rw (says-net h os) (one .before))
-    (rw (says-net h os, ← net-own os o) (one .with-it)))
 
 -- ---- What wakes a rule
 

@@ -78,7 +78,8 @@ pub extern "C" fn mordashun_run(
     out: &mut [u8],
     room: &mut [u8],
 ) -> u64
-    ensures { λ w. ⌜ RunAnswered (now (image .entry)) (now (book .entry)) (now (log .entry)) (now (out .entry)) (now (out .exit)) (now (room .entry)) (now (room .exit)) w ⌝ }
+    ensures { λ w. ⌜ RunAnswered (now (image .entry)) (now (book .entry)) (now (log .entry)) (now (out .entry)) (now (out .exit))
+        (now (room .entry)) (now (room .exit)) w ⌝ }
 {
     match engine::run(image, book, log, out, room) {
         Answer::Refused(r) => refused(r),

@@ -31,7 +31,8 @@ fn live_row(room: &[u8], i: usize) -> Row
 pub fn put_image(out: &mut [u8], room: &[u8])
     requires { ⌜ Stands LIVE ROWS (now room) ⌝ }
     requires { ⌜ 1355 ≤ length (now out) ⌝ }
-    ensures { λ _. ⌜ now (out .exit) ≡ inFrontOf (imageBytes (record { next = word32At (now (room .entry)) NEXT; rows = liveRows (now (room .entry)) })) (now (out .entry)) ⌝ }
+    ensures { λ _. ⌜ now (out .exit) ≡ inFrontOf (imageBytes
+        (record { next = word32At (now (room .entry)) NEXT; rows = liveRows (now (room .entry)) })) (now (out .entry)) ⌝ }
 {
     let n = slots::size(room, room::LIVE);
     image::put_head(out, words::word32(room, room::NEXT), n);

@@ -1,4 +1,5 @@
--- What is read off a well-formed book once: where its rules stand, the own table of each active one, and their total order.
+-- What is read off a well-formed book once: where its rules stand, the own table of each active one, what each looks out for, and their
+-- total order.
 use mathlib.Core.Path.{_≡_}
 use mathlib.Core.List.{List}
 use mathlib.Core.Option.{some}
@@ -25,6 +26,8 @@ ownTable rule = if rule .active then rule .table else 4
 -- an outline of a rule that was read up to a place
 pub record OutlineOf (rule : Rule) (next : ℕ) (o : Outline) : Type 0 where
   pub table : o .table ≡ ownTable rule
+  pub triggers : o .triggers ≡ rule .triggers
+  pub columns : o .columns ≡ rule .columns
   pub precedes : o .precedes ≡ rule .precedes
   pub ends : o .next ≡ next
 
@@ -42,9 +45,15 @@ pub record Placed (s : List ℕ) (n k : ℕ) (start table : ℕ) : Type 0 where
   pub fits : rule .table ≤ 3
   pub is : table ≡ ownTable rule
 
+-- a rule looks out for its triggers, in its columns
+pub record Watched (rule : Rule) (g c : ℕ) : Type 0 where
+  pub triggers : g ≡ rule .triggers
+  pub columns : c ≡ rule .columns
+
 -- a plan of a book of n rules
 pub record Planned (s : List ℕ) (n : ℕ) (plan : Plan) : Type 0 where
   pub count : plan .count ≡ n
   pub placed : (k : ℕ) → k < n → Placed s n k (getD (plan .starts) k 0) (getD (plan .tables) k 0)
+  pub watched : (k : ℕ) (b : k < n) → Watched (placed k b .rule) (getD (plan .triggers) k 0) (getD (plan .columns) k 0)
   pub absent : (k : ℕ) → n ≤ k → k < 16 → getD (plan .tables) k 0 ≡ 5
   pub ordered : orderMeant n (plan .order) ≡ totalOrder (rulesIn s n)

@@ -1,4 +1,5 @@
-// What is read off a well-formed book once: where its rules stand, the own table of each active one, and their total order.
+// What is read off a well-formed book once: where its rules stand, the own table of each active one, what each looks out for, and their
+// total order.
 ghost use mathlib.Core.Path.{_≡_};
 ghost use Prim.Native.Nat.{_≤_};
 ghost use lib.ListN.{length};
@@ -10,11 +11,14 @@ use book::Rule;
 use book::RuleRead;
 use order::Order;
 
-// `tables` has the own table of each rule, INACTIVE for a rule that is not active, and ABSENT past the last rule.
+// `tables` has the own table of each rule, INACTIVE for a rule that is not active, and ABSENT past the last rule. `triggers` and `columns`
+// have those of each rule, and 0 past the last.
 pub struct Plan {
     pub count: usize,
     pub starts: [usize; 16],
     pub tables: [u8; 16],
+    pub triggers: [u8; 16],
+    pub columns: [u8; 16],
     pub order: Order,
 }
 
@@ -22,24 +26,30 @@ pub const INACTIVE: u8 = 4;
 
 pub const ABSENT: u8 = 5;
 
-// Of a rule: its own table or INACTIVE, the rules that it precedes, and where it ends.
+// Of a rule: its own table or INACTIVE, its triggers and columns, the rules that it precedes, and where it ends.
 struct Outline {
     table: u8,
+    triggers: u8,
+    columns: u8,
     precedes: usize,
     next: usize,
 }
 
 fn outline_of(rule: Rule, next: usize) -> Outline
-    requires { ⌜ rule .head .table ≤ 3 ⌝ }
+    requires { ⌜ (rule .head .table ≤ 3) × (rule .head .triggers ≤ 7) × (rule .head .columns ≤ 15) ⌝ }
     ensures { λ r. ⌜ OutlineOf (headRule (rule .head)) next r ⌝ }
 {
     let head = rule.head;
+    let triggers = head.triggers as u8;
+    let columns = head.columns as u8;
     Outline {
         table: if head.active {
             head.table as u8
         } else {
             INACTIVE
         },
+        triggers,
+        columns,
         precedes: head.precedes,
         next,
     }
@@ -54,6 +64,8 @@ fn outline_at(s: &[u8], n: usize, at: usize) -> Outline
         RuleRead::Is { rule, next } => outline_of(rule, next),
         RuleRead::Bad => Outline {
             table: INACTIVE,
+            triggers: 0,
+            columns: 0,
             precedes: 0,
             next: at,
         },
@@ -68,6 +80,8 @@ pub fn plan_of(s: &[u8], n: usize) -> Plan
 {
     let mut starts: [usize; 16] = [0; 16];
     let mut tables: [u8; 16] = [ABSENT; 16];
+    let mut triggers: [u8; 16] = [0; 16];
+    let mut columns: [u8; 16] = [0; 16];
     let mut masks: [usize; 16] = [0; 16];
     let mut here = book::FIRST;
     let mut left = n;
@@ -76,6 +90,8 @@ pub fn plan_of(s: &[u8], n: usize) -> Plan
         let k = n - left;
         starts[k] = here;
         tables[k] = rule.table;
+        triggers[k] = rule.triggers;
+        columns[k] = rule.columns;
         masks[k] = rule.precedes;
         here = rule.next;
         left -= 1;
@@ -85,6 +101,8 @@ pub fn plan_of(s: &[u8], n: usize) -> Plan
         count: n,
         starts,
         tables,
+        triggers,
+        columns,
         order,
     }
 }

@@ -1,4 +1,5 @@
 mod OneStep
+mod Looking
 mod Turns
 mod Going
 mod Logged

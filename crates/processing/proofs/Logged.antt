@@ -44,9 +44,10 @@ module _ (rules : List Rule) (order : List ℕ) (limit : ℕ) (log : List LogOpe
 
 -- ---- The room
 
-pub starts-running : {xs tables : List ℕ} (rules : List Rule) → Starts xs tables rules → Running xs tables
-starts-running rules b =
+pub starts-running : {xs tables : List ℕ} (rules : List Rule) → Starts xs tables rules → Running xs
+starts-running {tables = tables} rules b =
     record {
+      tables = tables;
       start = b .start;
       state = starting rules (b .start);
       reached = reached-starting rules (b .sound);
@@ -54,12 +55,12 @@ starts-running rules b =
     }
 
 module _ (book log : List ℕ) (plan : Plan) (n : ℕ) {xs ys : List ℕ} {step : Step}
-    (a : Acts xs ys (plan .tables) (runLog (readable n operation log 7)) step) where
+    (a : Acts xs ys (runLog (readable n operation log 7)) step) where
   -- what it leaves, from a start
   followed : (start : Image) → Sound start → Represents xs (plan .tables) (starting (rulesIn book (plan .count)) start)
       → Follows ys (plan .tables) (starting (rulesIn book (plan .count)) start) (runLog (readable n operation log 7) start) step
   unfolding starting
-  followed start sound p = a .follows start _ (reached-starting (rulesIn book (plan .count)) sound) p
+  followed start sound p = a .follows (plan .tables) start _ (reached-starting (rulesIn book (plan .count)) sound) p
 
   -- the run ends there
   ends-run : (limit : ℕ) {r : Ended} {o : Covers.Outcome} → outcomeMeant (r .outcome) ≡ o → r .count ≡ 0

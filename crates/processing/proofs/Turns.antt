@@ -30,12 +30,12 @@ use Rattle.plan.specs.Plans.{rulesIn, Planned}
 use Rattle.plan.proofs.Active.{active-low}
 use Rattle.trigger.specs.declared.Next.{Next}
 use Rattle.trigger.specs.declared.Next.the-variants as next
-use Rattle.trigger.specs.Triggers.{nextMeant, orderIn, Numbers, TriggersFirst}
+use Rattle.trigger.specs.Triggers.{nextMeant, orderIn, Numbers}
 use Rattle.consider.specs.Considers.{Considers}
 use Rattle.processing.specs.declared.Outcome.the-variants as outcome
 use Rattle.processing.specs.declared.Ended.{Ended}
 use Rattle.processing.specs.Endings.{outcomeMeant, EndsAs}
-use Rattle.processing.specs.Rest.{Reaches, Midway, EndsFrom}
+use Rattle.processing.specs.Rest.{Reaches, Midway, Looks, EndsFrom}
 use Rattle.processing.proofs.OneStep.{steps-quiet, steps-limit, steps-went, steps-ends, first-below}
 
 -- ---- What a step led to
@@ -83,33 +83,33 @@ ends-there es p o n = record { laid = p .laid; outcome = o; count = n; next = p 
 abbrev rulesOf : List ℕ → Plan → List Rule
 rulesOf book plan = rulesIn book (plan .count)
 
-module _ {xs book : List ℕ} {plan : Plan} {found : Next} (t : TriggersFirst xs book plan found) where
+module _ {xs ys book : List ℕ} {plan : Plan} {found : Next} (t : Looks xs ys book plan found) where
   -- nothing is triggered
   pub quiet-ends : (left count : ℕ) {r : Ended} → found ≡ next.Quiet → (r .outcome ≡ outcome.Commit) × (r .count ≡ count)
-      → EndsFrom xs xs book plan left count r
+      → EndsFrom xs ys book plan left count r
   unfolding nextMeant
   quiet-ends left count q told =
       record {
         ends = λ start s a.
-            let none-first : firstTriggered (rulesOf book plan) (orderIn plan) s ≡ none =
-            sym (t .is s (a .represents)) ∙ ap nextMeant q in
+            let there = t .rests start s a .settled in
+            let none-first : firstTriggered (rulesOf book plan) (orderIn plan) s ≡ none = sym (t .first .is s there) ∙ ap nextMeant q in
             rw (steps-quiet (rulesOf book plan) (orderIn plan) s left count none-first)
-            (ends-there _ (a .represents) (ap outcomeMeant (told .0)) (told .1));
+            (ends-there _ (there .represents) (ap outcomeMeant (told .0)) (told .1));
       }
 
   module _ {k : ℕ} (q : found ≡ next.Rule k) where
-    first : {s : State} → Represents xs (plan .tables) s → firstTriggered (rulesOf book plan) (orderIn plan) s ≡ some k
+    first : {start : Image} {s : State} → Reaches xs book plan start s → firstTriggered (rulesOf book plan) (orderIn plan) s ≡ some k
     unfolding nextMeant
-    first {s} p = sym (t .is s p) ∙ ap nextMeant q
+    first {start} {s} a = sym (t .first .is s (t .rests start s a .settled)) ∙ ap nextMeant q
 
     -- a rule is triggered, and no consideration is left
     pub limit-ends : (left count : ℕ) {r : Ended} → left ≤ 0 → (r .outcome ≡ outcome.StepLimit) × (r .count ≡ count)
-        → EndsFrom xs xs book plan left count r
+        → EndsFrom xs ys book plan left count r
     limit-ends left count h told =
         record {
           ends = λ start s a.
-              rw (steps-limit (rulesOf book plan) (orderIn plan) s k (first (a .represents)) left count h)
-              (ends-there _ (a .represents) (ap outcomeMeant (told .0)) (told .1));
+              rw (steps-limit (rulesOf book plan) (orderIn plan) s k (first a) left count h)
+              (ends-there _ (t .rests start s a .settled .represents) (ap outcomeMeant (told .0)) (told .1));
         }
 
     -- the rule that is triggered is a rule of the book
@@ -117,58 +117,58 @@ module _ {xs book : List ℕ} {plan : Plan} {found : Next} (t : TriggersFirst xs
     unfolding firstTriggered orderIn
     rule-below numbers m =
         first-below (triggered (rulesOf book plan) (m .state)) (plan .order .rules) (plan .count) (plan .count) k (numbers .rule)
-        (first (m .reaches .represents))
+        (first (m .reaches))
 
     -- it is triggered, so it is active
     pub rule-active : Planned book (plan .count) plan → Numbers plan → Midway xs book plan → getD (plan .tables) k 0 ≤ 3
     unfolding firstTriggered triggered
     rule-active planned numbers m =
         let here = planned .placed k (rule-below numbers m) in
-        let on = first-is (triggered (rulesOf book plan) (m .state)) (orderIn plan) k (first (m .reaches .represents)) .passes in
+        let on = first-is (triggered (rulesOf book plan) (m .state)) (orderIn plan) k (first (m .reaches)) .passes in
         let both : here .rule .active && any (λ p. wakes (here .rule) (p .1)) (waits (m .state) k) ≡ true = rw (here .listed) at on in
         active-low here (and-true (here .rule .active) (any (λ p. wakes (here .rule) (p .1)) (waits (m .state) k)) both .0)
 
-    module _ (planned : Planned book (plan .count) plan) (below : k < plan .count) {ys : List ℕ} {step : Step}
-        (c : Considers xs ys book plan k step) where
+    module _ (planned : Planned book (plan .count) plan) (below : k < plan .count) {zs : List ℕ} {step : Step}
+        (c : Considers ys zs book plan k step) where
       -- what its consideration leaves, from every state
       followed : {start : Image} {s : State} → Reaches xs book plan start s
-          → Follows ys (plan .tables) (seen s k) (consider (rulesOf book plan) s k) step
+          → Follows zs (plan .tables) (seen s k) (consider (rulesOf book plan) s k) step
       followed {start} {s} a =
           let here = there-below (rulesOf book plan) k (planned .placed k below .rule) (planned .placed k below .listed) in
-          c .follows start s (a .reached) (a .represents) (omega (arith, a .marks))
+          c .follows start s (a .reached) (t .rests start s a .settled) (omega (arith, a .marks))
 
       -- the run ends there
       ends-run : (left count : ℕ) {r : Ended} {o : Covers.Outcome} → 0 < left → outcomeMeant (r .outcome) ≡ o → r .count ≡ count + 1
           → ((start : Image) (s : State) → Reaches xs book plan start s
-          → Led ys (plan .tables) (seen s k) (consider (rulesOf book plan) s k) (ends o))
-          → EndsFrom xs ys book plan left count r
+          → Led zs (plan .tables) (seen s k) (consider (rulesOf book plan) s k) (ends o))
+          → EndsFrom xs zs book plan left count r
       unfolding madeAll seen
       ends-run left count {o = o} h out n led =
           record {
             ends = λ start s a.
                 let way = led start s a in
-                rw (steps-ends (rulesOf book plan) (orderIn plan) s k (first (a .represents)) left count o (way .new) h (way .is))
+                rw (steps-ends (rulesOf book plan) (orderIn plan) s k (first a) left count o (way .new) h (way .is))
                 (ends-there _ (way .represents) out n);
           }
 
       pub turn-back : (left count : ℕ) {r : Ended} → 0 < left → step ≡ RolledBack
-          → (r .outcome ≡ outcome.RolledBack) × (r .count ≡ count + 1) → EndsFrom xs ys book plan left count r
+          → (r .outcome ≡ outcome.RolledBack) × (r .count ≡ count + 1) → EndsFrom xs zs book plan left count r
       turn-back left count h e told =
           ends-run left count h (ap outcomeMeant (told .0)) (told .1) (λ start s a. led-back (followed a) e)
 
       pub turn-fails : (left count : ℕ) {r : Ended} {why : Reason} → 0 < left → step ≡ Failed why
-          → (r .outcome ≡ outcome.Failed why) × (r .count ≡ count + 1) → EndsFrom xs ys book plan left count r
+          → (r .outcome ≡ outcome.Failed why) × (r .count ≡ count + 1) → EndsFrom xs zs book plan left count r
       turn-fails left count h e told =
           ends-run left count h (ap outcomeMeant (told .0)) (told .1) (λ start s a. led-fails (followed a) e)
 
       module _ (e : step ≡ Went) where
         led : {start : Image} {s : State} → Reaches xs book plan start s
-            → Led ys (plan .tables) (seen s k) (consider (rulesOf book plan) s k) went
+            → Led zs (plan .tables) (seen s k) (consider (rulesOf book plan) s k) went
         led a = led-on (followed a) e
 
         -- it goes on from a state that is reached, too
         reaches-on : {start : Image} {s : State} (a : Reaches xs book plan start s)
-            → Reaches ys book plan start (moved (rulesOf book plan) s k (led a .new))
+            → Reaches zs book plan start (moved (rulesOf book plan) s k (led a .new))
         unfolding moved seen
         reaches-on {start} {s} a =
             let good : Each GoodRule (rulesOf book plan) = readable-each (rule-gives (plan .count)) (plan .count) book 8 in
@@ -187,15 +187,15 @@ module _ {xs book : List ℕ} {plan : Plan} {found : Next} (t : TriggersFirst xs
               marks = length-set (s .marks) k (length (s .done)) ∙ a .marks;
             }
 
-        pub turn-midway : Midway xs book plan → Midway ys book plan
+        pub turn-midway : Midway xs book plan → Midway zs book plan
         turn-midway m = record { start = m .start; state = _; reaches = reaches-on (m .reaches) }
 
         -- what the rest from there ends as, the rest from here ends as
-        pub turn-on : (left count : ℕ) {zs : List ℕ} {r : Ended} → 0 < left → EndsFrom ys zs book plan (left - 1) (count + 1) r
-            → EndsFrom xs zs book plan left count r
+        pub turn-on : (left count : ℕ) {ws : List ℕ} {r : Ended} → 0 < left → EndsFrom zs ws book plan (left - 1) (count + 1) r
+            → EndsFrom xs ws book plan left count r
         turn-on left count h rest =
             record {
               ends = λ start s a.
-                  rw (steps-went (rulesOf book plan) (orderIn plan) s k (first (a .represents)) left count (led a .new) h (led a .is))
+                  rw (steps-went (rulesOf book plan) (orderIn plan) s k (first a) left count (led a .new) h (led a .is))
                   (after-ends _ (rest .ends start _ (reaches-on a)));
             }

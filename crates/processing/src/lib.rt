@@ -5,7 +5,7 @@ ghost use Prim.Native.Nat.{_+_, _≤_, _<_};
 ghost use Rattle.plan.specs.Plans.{rulesIn, Planned};
 ghost use Rattle.trigger.specs.Triggers.{Numbers};
 ghost use Rattle.processing.specs.Endings.{Starts, Processes};
-ghost use Rattle.processing.specs.Rest.{Midway, Steps};
+ghost use Rattle.processing.specs.Rest.{Midway, Looks, Steps};
 use changes::Reason;
 use changes::Step;
 use plan::Plan;
@@ -55,6 +55,19 @@ fn ending(outcome: Outcome, count: usize) -> Ended
     Ended { outcome, count }
 }
 
+// What was done joins what waits; then the first triggered rule in total order.
+fn next_rule(room: &mut [u8], book: &[u8], plan: Plan) -> Next
+    requires { ⌜ plan .count ≤ 16 ⌝ }
+    requires { ⌜ Planned (now book) (plan .count) plan ⌝ }
+    requires { ⌜ Numbers plan ⌝ }
+    requires { ⌜ Midway (now room) (now book) plan ⌝ }
+    ensures { λ r. ⌜ Looks (now (room .entry)) (now (room .exit)) (now (book .entry)) plan r ⌝ }
+{
+    let tables = plan.tables;
+    effects::settle(room, tables);
+    trigger::first_triggered(room, book, plan)
+}
+
 // Considers triggered rules, the first in total order each time.
 fn steps(room: &mut [u8], book: &[u8], plan: Plan, limit: usize) -> Ended
     requires { ⌜ plan .count ≤ 16 ⌝ }
@@ -65,7 +78,7 @@ fn steps(room: &mut [u8], book: &[u8], plan: Plan, limit: usize) -> Ended
 {
     let mut b = Budget { count: 0, limit };
     while b.count < b.limit {
-        match trigger::first_triggered(room, book, plan) {
+        match next_rule(room, book, plan) {
             Next::Quiet => {
                 return ending(Outcome::Commit, b.count);
             }
@@ -83,7 +96,7 @@ fn steps(room: &mut [u8], book: &[u8], plan: Plan, limit: usize) -> Ended
             }
         }
     }
-    match trigger::first_triggered(room, book, plan) {
+    match next_rule(room, book, plan) {
         Next::Quiet => ending(Outcome::Commit, b.count),
         Next::Rule(_) => ending(Outcome::StepLimit, b.count),
     }
@@ -104,8 +117,7 @@ pub fn process(
     requires { ⌜ Starts (now room) (plan .tables) (rulesIn (now book) (plan .count)) ⌝ }
     ensures { λ r. ⌜ Processes (now (room .entry)) (now (room .exit)) (now (book .entry)) (now (log .entry)) plan limit operations r ⌝ }
 {
-    let tables = plan.tables;
-    match series::run_log(room, tables, log, operations) {
+    match series::run_log(room, log, operations) {
         Step::Went => steps(room, book, plan, limit),
         Step::RolledBack => ending(Outcome::RolledBack, 0),
         Step::Failed(reason) => ending(Outcome::Failed(reason), 0),

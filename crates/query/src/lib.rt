@@ -274,7 +274,8 @@ fn keeps(
     requires { ⌜ i < word32At (now room) base ⌝ }
     requires { ⌜ (0 < others .count) × (others .count ≤ 64) ⌝ }
     requires { ⌜ ColumnsOf (tableAt (now room) from) others p (now s0) (now s1) (now s2) (now s3) ⌝ }
-    ensures { λ r. ⌜ r ≡ keptBy negated (agreesWith p (slotsOf (tableAt (now (room .entry)) from) others) (getD (tableAt (now (room .entry)) base) i blank)) ⌝ }
+    ensures { λ r. ⌜ r ≡ keptBy negated (agreesWith p (slotsOf (tableAt (now (room .entry)) from) others)
+        (getD (tableAt (now (room .entry)) base) i blank)) ⌝ }
 {
     let found = some_agrees(s0, s1, s2, s3, others.count, wanted_by(room, base, i, p));
     if negated {
@@ -298,7 +299,9 @@ fn matched(
     requires { ⌜ Stands from ROWS (now room) ⌝ }
     requires { ⌜ Within (tableAt (now room) from) others ⌝ }
     requires { ⌜ 0 < others .count ⌝ }
-    ensures { λ r. ⌜ Picks (tableAt (now (room .entry)) base) (select (λ e. keptBy negated (agreesWith p (slotsOf (tableAt (now (room .entry)) from) others) e)) (slotsOf (tableAt (now (room .entry)) base) rows)) r ⌝ }
+    ensures { λ r. ⌜ Picks (tableAt (now (room .entry)) base)
+        (select (λ e. keptBy negated (agreesWith p (slotsOf (tableAt (now (room .entry)) from) others) e))
+        (slotsOf (tableAt (now (room .entry)) base) rows)) r ⌝ }
 {
     let s0 = column_of(room, from, others, p.other0);
     let s1 = column_of(room, from, others, p.other1);
@@ -345,7 +348,9 @@ fn match_rows(
     requires { ⌜ Within (tableAt (now room) base) rows ⌝ }
     requires { ⌜ 1 ≤ length (readable count pair (now book) pairs) ⌝ }
     requires { ⌜ length (readable count pair (now book) pairs) ≤ 4 ⌝ }
-    ensures { λ r. ⌜ Picks (tableAt (now (room .entry)) base) (select (matchHolds (now (room .entry)) (readable count pair (now (book .entry)) pairs) source negated) (slotsOf (tableAt (now (room .entry)) base) rows)) r ⌝ }
+    ensures { λ r. ⌜ Picks (tableAt (now (room .entry)) base)
+        (select (matchHolds (now (room .entry)) (readable count pair (now (book .entry)) pairs) source negated)
+        (slotsOf (tableAt (now (room .entry)) base) rows)) r ⌝ }
 {
     let from = base_of(source);
     let others = shown_rows(room, from, source);
@@ -378,7 +383,9 @@ fn constant_rows(
 ) -> Picked
     requires { ⌜ Stands base ROWS (now room) ⌝ }
     requires { ⌜ Within (tableAt (now room) base) rows ⌝ }
-    ensures { λ r. ⌜ Picks (tableAt (now (room .entry)) base) (select (λ e. Values·compare (comparison op) (Queries.cell (rowMeant e) column) (signed constant)) (slotsOf (tableAt (now (room .entry)) base) rows)) r ⌝ }
+    ensures { λ r. ⌜ Picks (tableAt (now (room .entry)) base)
+        (select (λ e. Values·compare (comparison op) (Queries.cell (rowMeant e) column) (signed constant))
+        (slotsOf (tableAt (now (room .entry)) base) rows)) r ⌝ }
 {
     let mut places = rows.places;
     let mut count: usize = 0;
@@ -405,7 +412,9 @@ fn column_rows(
 ) -> Picked
     requires { ⌜ Stands base ROWS (now room) ⌝ }
     requires { ⌜ Within (tableAt (now room) base) rows ⌝ }
-    ensures { λ r. ⌜ Picks (tableAt (now (room .entry)) base) (select (λ e. Values·compare (comparison op) (Queries.cell (rowMeant e) column) (Queries.cell (rowMeant e) other)) (slotsOf (tableAt (now (room .entry)) base) rows)) r ⌝ }
+    ensures { λ r. ⌜ Picks (tableAt (now (room .entry)) base)
+        (select (λ e. Values·compare (comparison op) (Queries.cell (rowMeant e) column) (Queries.cell (rowMeant e) other))
+        (slotsOf (tableAt (now (room .entry)) base) rows)) r ⌝ }
 {
     let mut places = rows.places;
     let mut count: usize = 0;
@@ -428,7 +437,8 @@ fn term_rows(room: &[u8], book: &[u8], base: usize, t: Term, rows: Picked) -> Pi
     requires { ⌜ Stands base ROWS (now room) ⌝ }
     requires { ⌜ Within (tableAt (now room) base) rows ⌝ }
     requires { ⌜ FewPairs (termMeant (now book) t) ⌝ }
-    ensures { λ r. ⌜ Picks (tableAt (now (room .entry)) base) (select (termHolds (now (room .entry)) (termMeant (now (book .entry)) t)) (slotsOf (tableAt (now (room .entry)) base) rows)) r ⌝ }
+    ensures { λ r. ⌜ Picks (tableAt (now (room .entry)) base)
+        (select (termHolds (now (room .entry)) (termMeant (now (book .entry)) t)) (slotsOf (tableAt (now (room .entry)) base) rows)) r ⌝ }
 {
     match t {
         Term::Constant {
@@ -450,7 +460,10 @@ fn term_rows(room: &[u8], book: &[u8], base: usize, t: Term, rows: Picked) -> Pi
 fn wanted_rows(room: &[u8], book: &[u8], triggers: usize, q: Query, base: usize) -> Picked
     requires { ⌜ Laid (now room) ⌝ }
     requires { ⌜ base ≡ baseOf (q .source) ⌝ }
-    ensures { λ r. ⌜ Picks (tableAt (now (room .entry)) base) (select (λ e. Chosen·shows (q .source) e && Queries.allHold (transitionIn (now (room .entry))) (liveRows (now (room .entry))) (termsMeant (now (book .entry)) triggers (q .terms)) (rowMeant e)) (tableAt (now (room .entry)) base)) r ⌝ }
+    ensures { λ r. ⌜ Picks (tableAt (now (room .entry)) base)
+        (select (λ e. Chosen·shows (q .source) e && Queries.allHold (transitionIn (now (room .entry)))
+        (liveRows (now (room .entry))) (termsMeant (now (book .entry)) triggers (q .terms)) (rowMeant e))
+        (tableAt (now (room .entry)) base)) r ⌝ }
 {
     let mut rows = shown_rows(room, base, q.source);
     let mut left = q.terms.count;
@@ -473,7 +486,8 @@ fn wanted_rows(room: &[u8], book: &[u8], triggers: usize, q: Query, base: usize)
 // Whether a query yields a row.
 pub fn yields(room: &[u8], book: &[u8], triggers: usize, q: Query) -> bool
     requires { ⌜ Laid (now room) ⌝ }
-    ensures { λ r. ⌜ r ≡ someIn (Queries.chosen (transitionIn (now (room .entry))) (liveRows (now (room .entry))) (queryMeant (now (book .entry)) triggers q)) ⌝ }
+    ensures { λ r. ⌜ r ≡ someIn (Queries.chosen (transitionIn (now (room .entry))) (liveRows (now (room .entry)))
+        (queryMeant (now (book .entry)) triggers q)) ⌝ }
 {
     let base = base_of(q.source);
     let rows = wanted_rows(room, book, triggers, q, base);

@@ -25,9 +25,10 @@ use Rattle.room.specs.Room.{ROWS, liveRows, waitsIn}
 use Rattle.meaning.proofs.OwnTable.{ownOf}
 use Rattle.meaning.proofs.OwnTable.{own-gather, own-wakes, own-transition}
 use Rattle.room.specs.Drawn.{drawnFor, Few}
-use Rattle.room.specs.Represents.{Represents, Reached}
+use Rattle.room.specs.Represents.{Reached, Settled}
 use Rattle.room.proofs.Live.{reached-sound}
 use Rattle.room.proofs.Steps.{Stretch, stretch}
+use Rattle.room.proofs.Settling.{settled-waits}
 
 -- ---- The entries of which a row is drawn
 
@@ -190,24 +191,23 @@ own-fewer t rule rows es f =
       old = omega (arith, f .old, own-gather t (λ p. oldRow rule (p .1)) es);
     }
 
-pub draw-few : {start : Image} {s : State} {xs tables : List ℕ} → Reached start s → Represents xs tables s → (k : ℕ) → k < 16
-    → (rule : Rule) → Few (drawnFor xs k rule)
-unfolding drawnFor waits
-draw-few {s = s} {xs = xs} {tables = tables} reached p k b rule =
-    rw (p .waiting k b)
-    (own-fewer (getD tables k 0) rule (liveRows xs) (netEffect (since s k))
-    (stretch-few (stretch reached k) (reached-sound reached .rowsFit) rule (liveRows xs)))
-
--- ---- Of what waits, a rule sees no more than its own table's part
-
-module _ {s : State} {xs tables : List ℕ} (p : Represents xs tables s) (k : ℕ) (low : k < 16) (rule : Rule)
-    (own : getD tables k 0 ≡ rule .table) where
-  pub woken-whole : any (λ e. wakes rule (e .1)) (waitsIn xs k) ≡ any (λ e. wakes rule (e .1)) (waits s k)
-  woken-whole = rw (p .waiting k low, own) (own-wakes rule (waits s k))
-
-  pub drawn-whole : {start : Image} → Reached start s → drawnFor xs k rule ≡ transition rule (s .image .rows) (waits s k)
+module _ {s : State} {xs tables : List ℕ} (p : Settled xs tables s) (k : ℕ) (low : k < 16) (on : getD tables k 0 ≤ 3) where
+  pub draw-few : {start : Image} → Reached start s → (rule : Rule) → Few (drawnFor xs k rule)
   unfolding drawnFor waits
-  drawn-whole reached =
-      let t = stretch reached k in
-      rw (p .waiting k low, own, p .rows)
-      (rw (t .ends) at (own-transition rule (since s k) (t .sound) (t .made)))
+  draw-few reached rule =
+      rw (settled-waits p k low on)
+      (own-fewer (getD tables k 0) rule (liveRows xs) (netEffect (since s k))
+      (stretch-few (stretch reached k) (reached-sound reached .rowsFit) rule (liveRows xs)))
+
+  -- ---- Of what waits, a rule sees no more than its own table's part
+
+  module _ (rule : Rule) (own : getD tables k 0 ≡ rule .table) where
+    pub woken-whole : any (λ e. wakes rule (e .1)) (waitsIn xs k) ≡ any (λ e. wakes rule (e .1)) (waits s k)
+    woken-whole = rw (settled-waits p k low on, own) (own-wakes rule (waits s k))
+
+    pub drawn-whole : {start : Image} → Reached start s → drawnFor xs k rule ≡ transition rule (s .image .rows) (waits s k)
+    unfolding drawnFor waits
+    drawn-whole reached =
+        let t = stretch reached k in
+        rw (settled-waits p k low on, own, p .represents .rows)
+        (rw (t .ends) at (own-transition rule (since s k) (t .sound) (t .made)))

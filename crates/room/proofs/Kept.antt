@@ -7,7 +7,7 @@ use native.Mathlib.Omega.{arith}
 use Rattle.words.specs.Words.{word32At}
 use Rattle.slots.specs.Slots.{slotAt, slotsFrom, tableAt, tableBytes, Frame, Stands}
 use Rattle.slots.proofs.Tables.{stands-kept-below, stands-kept-above}
-use Rattle.room.specs.Room.{NEXT, LIVE, INSERTED, DELETED, NEW, OLD, CHOSEN, WORKED, WAITS, END, ROWS, ENTRIES, waitAt}
+use Rattle.room.specs.Room.{NEXT, LIVE, INSERTED, DELETED, NEW, OLD, CHOSEN, WORKED, WAITS, STRETCH, END, ROWS, ENTRIES, waitAt}
 use Rattle.room.specs.Room.{Laid, Kept, rowsMeant, liveRows, transitionIn}
 
 -- ---- Parts that are kept
@@ -93,6 +93,7 @@ module _ {xs ys : List ℕ} (l : Laid xs) where
         chosen = stands-kept-above f CHOSEN ROWS (l .chosen) (omega arith);
         worked = stands-kept-above f WORKED ROWS (l .worked) (omega arith);
         waits = λ k h. stands-kept-above f (waitAt k) ENTRIES (l .waits k h) (omega arith);
+        stretch = stands-kept-above f STRETCH ENTRIES (l .stretch) (omega arith);
       }
 
   -- the chosen rows and those worked out
@@ -109,12 +110,13 @@ module _ {xs ys : List ℕ} (l : Laid xs) where
         chosen = chosen;
         worked = worked;
         waits = λ k h. stands-kept-above f (waitAt k) ENTRIES (l .waits k h) (omega arith);
+        stretch = stands-kept-above f STRETCH ENTRIES (l .stretch) (omega arith);
       }
 
-  -- what waits
-  pub laid-behind : Frame WAITS END xs ys → ((k : ℕ) → k < 16 → Stands (waitAt k) ENTRIES ys) → Laid ys
+  -- what was done since the last joining
+  pub laid-behind : Frame STRETCH END xs ys → Stands STRETCH ENTRIES ys → Laid ys
   unfolding tableBytes
-  laid-behind f waits =
+  laid-behind f stretch =
       record {
         long = rw (f .len) (l .long);
         live = stands-kept-below f LIVE ROWS (l .live) (omega arith);
@@ -124,5 +126,6 @@ module _ {xs ys : List ℕ} (l : Laid xs) where
         old = stands-kept-below f OLD ROWS (l .old) (omega arith);
         chosen = stands-kept-below f CHOSEN ROWS (l .chosen) (omega arith);
         worked = stands-kept-below f WORKED ROWS (l .worked) (omega arith);
-        waits = waits;
+        waits = λ k h. stands-kept-below f (waitAt k) ENTRIES (l .waits k h) (omega arith);
+        stretch = stretch;
       }

@@ -4,5 +4,6 @@ pub mod Waits
 pub mod Live
 pub mod Fitting
 pub mod Steps
+pub mod Settling
 pub mod Draws
 pub mod Marks

@@ -2,28 +2,29 @@
 -- no operation, as its table is empty; the rest of the state stays, as do the live rows and the other tables.
 use mathlib.Core.Path.{_≡_, refl, sym, ap, _∙_}
 use mathlib.Core.Bool.{Bool, true, false}
-use mathlib.Core.List.{List, []}
+use mathlib.Core.List.{List, [], append-nil}
 use Prim.Native.Nat.{ℕ, _≤_, _<_}
 use native.Mathlib.Omega.{arith}
 use lib.Dec.{eqb, ltb}
-use lib.ListN.{length, getD, set, replicate, length-set}
+use lib.ListN.{length, getD, set, drop, replicate, length-set}
 use lib.Seq.{drop-length, getD-set-same, getD-set-other, set-out}
 use borrow.Author.Tests.{eqb-true, eqb-false, ltb-true, ltb-false}
 use Rattle.meaning.specs.Covers.{Rule, Image}
-use Rattle.meaning.specs.RowOperations.{RowOperation, makeAll}
+use Rattle.meaning.specs.RowOperations.{RowOperation, makeAll, netEffect}
 use Rattle.meaning.specs.Processing.{State, since, waits, moved, afterLog}
 use Rattle.meaning.proofs.Made.{Sound, Made.none as noneMade}
 use Rattle.meaning.proofs.NetEffects.{netEffect-none}
 use Rattle.words.specs.Words.{Bytes, word32At}
 use Rattle.words.proofs.Laws.{all-same}
 use Rattle.slots.specs.Slots.{tableAt}
-use Rattle.room.specs.Room.{NEXT, waitAt, Laid, waitMeant, liveRows, waitsIn}
+use Rattle.room.specs.Room.{NEXT, STRETCH, waitAt, Laid, waitMeant, liveRows, waitsIn, stretchIn}
 use Rattle.meaning.proofs.OwnTable.{ownOf}
 use Rattle.room.specs.Joins.{Ended}
 use Rattle.room.specs.Drawn.{Drew}
-use Rattle.room.specs.Represents.{Represents, Reached, madeAll}
+use Rattle.room.specs.Represents.{Represents, Settled, Reached, madeAll}
 use Rattle.meaning.proofs.OwnTable.{own-none}
 use Rattle.room.proofs.Kept.{word-kept, live-kept}
+use Rattle.room.proofs.Settling.{settled-waits}
 
 -- ---- A mark is moved
 
@@ -75,22 +76,37 @@ seen-other s k j e = rw (getD-set-other (s .marks) k j (length (s .done)) 0 (eqb
 
 -- ---- The room after a drawing
 
-pub drew : {s : State} {xs ys tables : List ℕ} {k : ℕ} {rule : Rule} → Represents xs tables s → Drew xs ys k rule → Bytes ys
-    → k < length (s .marks) → Represents ys tables (seen s k)
-unfolding seen waitsIn waitMeant
+pub drew : {s : State} {xs ys tables : List ℕ} {k : ℕ} {rule : Rule} → Settled xs tables s → Drew xs ys k rule → Bytes ys
+    → k < length (s .marks) → Settled ys tables (seen s k)
+unfolding waits since seen waitsIn stretchIn waitMeant
 drew {s} {xs} {ys} {tables} {k} p d bytes mark =
+    let r = p .represents in
     record {
-      laid = d .laid;
-      bytes = bytes;
-      next = word-kept (d .before) NEXT (omega arith) (omega arith) ∙ p .next;
-      rows = live-kept (d .before) (p .laid) (omega arith) (omega arith) ∙ p .rows;
-      ended = p .ended;
-      waiting = λ j b. go j b (eqb j k) refl;
+      represents =
+          record {
+            laid = d .laid;
+            bytes = bytes;
+            next = word-kept (d .before) NEXT (omega arith) (omega arith) ∙ r .next;
+            rows = live-kept (d .before) (r .laid) (omega arith) (omega arith) ∙ r .rows;
+            ended = r .ended;
+            joined = s .done;
+            since = [];
+            whole = sym (append-nil (s .done));
+            marked = set-at-most (s .marks) k (length (s .done)) (λ j. rw whole (r .marked j));
+            waiting = λ j b a. go j b a (eqb j k) refl;
+            stretch = ap waitMeant (d .stretch) ∙ r .stretch ∙ ap netEffect (p .none);
+          };
+      none = refl;
     }
   where
-    go : (j : ℕ) → j < 16 → (t : Bool) → eqb j k ≡ t → waitsIn ys j ≡ ownOf (getD tables j 0) (waits (seen s k) j)
-    go j b true e = rw (eqb-true j k e, d .emptied, seen-none s k mark) (sym (own-none (getD tables k 0)))
-    go j b false e = rw (seen-other s k j e) (ap waitMeant (d .others j b (eqb-false j k e)) ∙ p .waiting j b)
+    whole : s .done ≡ p .represents .joined
+    whole = p .represents .whole ∙ rw (p .none) (append-nil (p .represents .joined))
+
+    go : (j : ℕ) → j < 16 → getD tables j 0 ≤ 3 → (t : Bool) → eqb j k ≡ t
+        → waitsIn ys j ≡ ownOf (getD tables j 0) (netEffect (drop (getD (set (s .marks) k (length (s .done))) j 0) (s .done)))
+    go j b a true e = rw (eqb-true j k e, d .emptied) (sym (ap (ownOf (getD tables k 0)) (seen-none s k mark) ∙ own-none (getD tables k 0)))
+    go j b a false e =
+        ap waitMeant (d .others j b (eqb-false j k e)) ∙ settled-waits p j b a ∙ ap (ownOf (getD tables j 0)) (sym (seen-other s k j e))
 
 -- ---- The start
 
@@ -110,15 +126,20 @@ reached-starting rules s =
 
 pub represents-starting : (rules : List Rule) {start : Image} {xs tables : List ℕ} → Laid xs → Bytes xs
     → word32At xs NEXT ≡ start .next → liveRows xs ≡ start .rows
-    → ((k : ℕ) → k < 16 → tableAt xs (waitAt k) ≡ []) → Ended tables
+    → ((k : ℕ) → k < 16 → tableAt xs (waitAt k) ≡ []) → tableAt xs STRETCH ≡ [] → Ended tables
     → Represents xs tables (starting rules start)
-unfolding starting waits since waitsIn waitMeant
-represents-starting rules {start} {tables = tables} laid bytes next rows empty ended =
+unfolding starting waitsIn stretchIn waitMeant
+represents-starting rules {start} {tables = tables} laid bytes next rows empty none ended =
     record {
       laid = laid;
       bytes = bytes;
       next = next;
       rows = rows;
       ended = ended;
-      waiting = λ k b. rw (empty k b, all-same {A = ℕ} (length rules) k 0, netEffect-none) (sym (own-none (getD tables k 0)));
+      joined = [];
+      since = [];
+      whole = refl;
+      marked = λ k. rw (all-same {A = ℕ} (length rules) k 0) (omega arith);
+      waiting = λ k b a. rw (empty k b, all-same {A = ℕ} (length rules) k 0, netEffect-none) (sym (own-none (getD tables k 0)));
+      stretch = rw none (sym netEffect-none);
     }

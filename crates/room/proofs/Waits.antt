@@ -1,5 +1,5 @@
--- What waits, slot by slot: where a table's slots mean the net effect of a stretch, they stand by rising handle, and an operation more
--- joins them as it joins the net effect, since slots join as the effects that they mean.
+-- What was done and what waits, slot by slot: where a table's slots mean a net effect, they stand by rising handle, and an operation more
+-- joins them as it joins the net effect, since slots join as the effects that they mean; and so does a whole stretch of a table.
 use mathlib.Core.Path.{_≡_, refl, sym, ap, _∙_}
 use mathlib.Core.Logic.{_≢_}
 use mathlib.Core.Bool.{Bool, true, false}
@@ -15,8 +15,9 @@ use Rattle.meaning.proofs.NetEffects.{joinInto, joinOperation, Listed, oneEntry
 use Rattle.slots.specs.declared.Slot.{Slot}
 use Rattle.slots.specs.Slots.{blank, Sorted}
 use Rattle.room.specs.Room.{rowMeant, effectMeant, entryMeant, waitMeant}
-use Rattle.room.specs.Joins.{asEffect, joinedSlot, joinSlot, keptSlot, joinSlots}
-use Rattle.meaning.proofs.OwnTable.{onTable}
+use Rattle.room.specs.Joins.{asEffect, joinedSlot, joinSlot, keptSlot, joinSlots, joinIf, joinStretch}
+use Rattle.meaning.proofs.OwnTable.{onTable, ownOf}
+use Rattle.meaning.proofs.Stretches.{joinEffects, join-into-listed}
 use Rattle.room.specs.Represents.{Says}
 
 unfoldable meant : Unit {0}
@@ -95,14 +96,7 @@ listed-rises (e ∷ l) p i zero h b = absurd (omega arith)
 listed-rises (e ∷ l) (oneEntry a c r) zero (suc j) h b = listed-over l r j (omega arith)
 listed-rises (e ∷ l) (oneEntry a c r) (suc i) (suc j) h b = listed-rises l r i j (omega arith) (omega arith)
 
--- ---- What waits
-
--- an operation does something
-effect-some : (o : RowOperation) → effectOf o ≢ nothing
-unfolding effectOf
-effect-some (inserts r) q = let z : _≡_ {A = ℕ} 0 1 = cc in omega arith
-effect-some (deletes r) q = let z : _≡_ {A = ℕ} 0 1 = cc in omega arith
-effect-some (updates m old new) q = let z : _≡_ {A = ℕ} 0 1 = cc in omega arith
+-- ---- A stretch
 
 -- a slot is on the table that it names
 slot-table : (t : ℕ) (e : Slot) → effectMeant e ≢ nothing → onTable t (effectMeant e) ≡ eqb (e .table) t
@@ -114,9 +108,31 @@ slot-table t e n = go (kind-of e n)
     go (two p) = rw p
     go (three p) = rw p
 
--- so is an operation on the table that its slot names
-pub says-table : (t : ℕ) {o : RowOperation} {op : Slot} → Says o op → onTable t (effectOf o) ≡ eqb (op .table) t
-says-table t {o} {op} s = rw (← s .effect) (slot-table t op (λ q. effect-some o (sym (s .effect) ∙ q)))
+stretch-join : {low : ℕ} (t : ℕ) (ops l : List Slot) → Listed low (waitMeant ops) → Listed 0 (waitMeant l)
+    → waitMeant (joinStretch t ops l) ≡ joinEffects (ownOf t (waitMeant ops)) (waitMeant l)
+unfolding joinIf joinStretch joinEffects ownOf waitMeant entryMeant
+stretch-join t [] l p q = refl
+stretch-join t (op ∷ ops) l (oneEntry a b r) q = go (eqb (op .table) t) refl (λ m. stretch-join t ops m r)
+  where
+    joined : waitMeant (joinSlots op l) ≡ joinInto (op .handle) (effectMeant op) (waitMeant l)
+    joined = table-join op l b q
+
+    go : (c : Bool) → eqb (op .table) t ≡ c
+        → ((m : List Slot) → Listed 0 (waitMeant m) → waitMeant (joinStretch t ops m) ≡ joinEffects (ownOf t (waitMeant ops)) (waitMeant m))
+        → waitMeant (joinStretch t (op ∷ ops) l) ≡ joinEffects (ownOf t (waitMeant (op ∷ ops))) (waitMeant l)
+    go true e ih =
+        let listed : Listed 0 (waitMeant (joinSlots op l)) = rw joined (join-into-listed (op .handle) (effectMeant op) (omega arith) q) in
+        rw (e, slot-table t op b, e) (ih (joinSlots op l) listed ∙ rw joined)
+    go false e ih = rw (e, slot-table t op b, e) (ih l q)
+
+-- ---- What waits
+
+-- an operation does something
+effect-some : (o : RowOperation) → effectOf o ≢ nothing
+unfolding effectOf
+effect-some (inserts r) q = let z : _≡_ {A = ℕ} 0 1 = cc in omega arith
+effect-some (deletes r) q = let z : _≡_ {A = ℕ} 0 1 = cc in omega arith
+effect-some (updates m old new) q = let z : _≡_ {A = ℕ} 0 1 = cc in omega arith
 
 pub waits-length : (l : List Slot) (es : NetEffect) → waitMeant l ≡ es → length l ≡ length es
 unfolding waitMeant
@@ -132,3 +148,8 @@ module _ (l : List Slot) (es : NetEffect) (listed : Listed 0 es) (w : waitMeant 
   pub waits-more : {o : RowOperation} {op : Slot} → Says o op → waitMeant (joinSlots op l) ≡ joinOperation o es
   unfolding joinOperation
   waits-more {o} {op} s = table-join op l (λ q. effect-some o (sym (s .effect) ∙ q)) waits-listed ∙ rw (s .effect, s .handle, w)
+
+-- two tables that mean net effects
+pub waits-stretch : (t : ℕ) (ops l : List Slot) (es fs : NetEffect) → Listed 0 es → Listed 0 fs → waitMeant ops ≡ es → waitMeant l ≡ fs
+    → waitMeant (joinStretch t ops l) ≡ joinEffects (ownOf t es) fs
+waits-stretch t ops l es fs p q w v = stretch-join {low = 0} t ops l (rw w p) (rw v q) ∙ rw (w, v)

@@ -8,7 +8,7 @@ use Rattle.meaning.specs.Covers.{Rule}
 use Rattle.meaning.specs.Processing.TransitionTables.{Transition, transition}
 use Rattle.words.specs.Words.{word32At}
 use Rattle.slots.specs.Slots.{tableAt, Sorted}
-use Rattle.room.specs.Room.{NEXT, LIVE, INSERTED, END, ROWS, waitAt, Laid, Kept, liveRows, transitionIn, waitsIn}
+use Rattle.room.specs.Room.{NEXT, LIVE, INSERTED, STRETCH, END, ROWS, waitAt, Laid, Kept, liveRows, transitionIn, waitsIn}
 
 -- the transition tables of rule k from what waits for it
 unfoldable pub drawnFor : List ℕ → ℕ → Rule → Transition
@@ -27,5 +27,6 @@ pub record Drew (xs ys : List ℕ) (k : ℕ) (rule : Rule) : Type 0 where
   pub tables : transitionIn ys ≡ drawnFor xs k rule
   pub emptied : tableAt ys (waitAt k) ≡ []
   pub others : (j : ℕ) → j < 16 → j ≢ k → tableAt ys (waitAt j) ≡ tableAt xs (waitAt j)
+  pub stretch : tableAt ys STRETCH ≡ tableAt xs STRETCH
   pub before : Kept NEXT INSERTED xs ys
   pub beyond : Kept END (length xs) xs ys

@@ -1,4 +1,4 @@
--- How an operation joins what waits for the rules, slot by slot.
+-- How an operation joins what was done since the last joining, and how that joins what waits for the rules, slot by slot.
 use mathlib.Core.Path.{_≡_}
 use mathlib.Core.Bool.{Bool, true, false}
 use mathlib.Core.List.{List, [], _∷_}
@@ -9,8 +9,8 @@ use lib.ListN.{length, getD}
 use Rattle.meaning.specs.Base.{if_then_else_}
 use Rattle.meaning.specs.RowOperations.{joinKind}
 use Rattle.slots.specs.declared.Slot.{Slot}
-use Rattle.slots.specs.Slots.{tableAt, Frame, Stands, Sorted}
-use Rattle.room.specs.Room.{WAITS, END, ENTRIES, waitAt, Laid}
+use Rattle.slots.specs.Slots.{tableAt, Sorted}
+use Rattle.room.specs.Room.{NEXT, CHOSEN, STRETCH, END, ENTRIES, waitAt, Laid, Kept}
 
 -- a slot with another kind and mask
 unfoldable pub asEffect : ℕ → ℕ → Slot → Slot
@@ -37,34 +37,46 @@ joinSlots op (e ∷ l) =
     if ltb (e .handle) (op .handle) then e ∷ joinSlots op l else
     if eqb (e .handle) (op .handle) then keptSlot (joinSlot e op) l else op ∷ e ∷ l
 
--- a table of what waits for a rule on the operation's own table is joined, another stays
+-- of a stretch, what is on a table joins what waits for a rule on that table, one effect after another
 unfoldable pub joinIf : Bool → Slot → List Slot → List Slot
 joinIf true op l = joinSlots op l
 joinIf false op l = l
+
+unfoldable pub joinStretch : ℕ → List Slot → List Slot → List Slot
+joinStretch table [] l = l
+joinStretch table (op ∷ ops) l = joinStretch table ops (joinIf (eqb (op .table) table) op l)
 
 -- a table can take an operation
 pub record Takes (op : Slot) (l : List Slot) : Type 0 where
   pub sorted : Sorted l
   pub fits : length (joinSlots op l) ≤ ENTRIES
 
+-- an operation can join what was done since the last joining
+pub record Joinable (xs : List ℕ) (op : Slot) : Type 0 where
+  pub laid : Laid xs
+  pub takes : Takes op (tableAt xs STRETCH)
+
 -- A rule's own table is 0..3, and 4 stands for that of a rule that is not active. Where more than that stands there is no rule, and none
 -- after it.
 pub record Ended (tables : List ℕ) : Type 0 where
   pub stays : (j k : ℕ) → j ≤ k → k < 16 → 4 < getD tables j 0 → 4 < getD tables k 0
 
--- the operation is on the own table of rule k
-unfoldable pub concerns : List ℕ → Slot → ℕ → Bool
-concerns tables op k = eqb (op .table) (getD tables k 0)
+-- what waits for rule k then
+unfoldable pub settledFor : List ℕ → ℕ → ℕ → List Slot
+settledFor xs table k = joinStretch table (tableAt xs STRETCH) (tableAt xs (waitAt k))
 
--- what waits for each rule on the operation's own table can take it
-pub record Joinable (xs tables : List ℕ) (op : Slot) : Type 0 where
+-- what waits for each active rule can take what was done since
+pub record Settleable (xs tables : List ℕ) : Type 0 where
   pub laid : Laid xs
   pub ended : Ended tables
-  pub within : op .table ≤ 3
-  pub takes : (k : ℕ) → k < 16 → concerns tables op k ≡ true → Takes op (tableAt xs (waitAt k))
+  pub rises : Sorted (tableAt xs STRETCH)
+  pub sorted : (k : ℕ) → k < 16 → getD tables k 0 ≤ 3 → Sorted (tableAt xs (waitAt k))
+  pub fits : (k : ℕ) → k < 16 → getD tables k 0 ≤ 3 → length (settledFor xs (getD tables k 0) k) ≤ ENTRIES
 
--- the operation joined what waits for each rule on its own table, and nothing else changed
-pub record AllJoined (xs ys tables : List ℕ) (op : Slot) : Type 0 where
-  pub frame : Frame WAITS END xs ys
-  pub stands : (k : ℕ) → k < 16 → Stands (waitAt k) ENTRIES ys
-  pub waits : (k : ℕ) → k < 16 → tableAt ys (waitAt k) ≡ joinIf (concerns tables op k) op (tableAt xs (waitAt k))
+-- it joined what waits for each of them, and nothing of it is left; next handle, live rows and transition tables stay
+pub record AllSettled (xs ys tables : List ℕ) : Type 0 where
+  pub laid : Laid ys
+  pub waits : (k : ℕ) → k < 16 → getD tables k 0 ≤ 3 → tableAt ys (waitAt k) ≡ settledFor xs (getD tables k 0) k
+  pub none : tableAt ys STRETCH ≡ []
+  pub before : Kept NEXT CHOSEN xs ys
+  pub beyond : Kept END (length xs) xs ys

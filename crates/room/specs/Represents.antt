@@ -2,26 +2,38 @@
 use mathlib.Core.Path.{_≡_}
 use mathlib.Core.List.{List, [], _∷_, _++_}
 use Prim.Native.Nat.{ℕ, _≤_, _<_}
-use lib.ListN.{length, getD}
+use lib.ListN.{length, getD, drop}
 use Rattle.meaning.specs.Covers.{Image}
-use Rattle.meaning.specs.RowOperations.{RowOperation, handleOf, effectOf, make, makeAll}
-use Rattle.meaning.specs.Processing.{State, waits}
+use Rattle.meaning.specs.RowOperations.{RowOperation, handleOf, effectOf, make, makeAll, netEffect}
+use Rattle.meaning.specs.Processing.{State}
 use Rattle.meaning.proofs.Made.{Sound, Made}
 use Rattle.words.specs.Words.{Bytes, word32At}
 use Rattle.slots.specs.declared.Slot.{Slot}
 use Rattle.meaning.proofs.OwnTable.{ownOf}
 use Rattle.room.specs.Joins.{Ended}
-use Rattle.room.specs.Room.{NEXT, Laid, effectMeant, liveRows, waitsIn}
+use Rattle.room.specs.Room.{NEXT, Laid, effectMeant, liveRows, waitsIn, stretchIn}
 
--- live rows and next handle are the image's; what waits for each rule is, of what the specification says waits for it, what is on the
--- rule's own table, since nothing else wakes it or is shown to it
+-- Live rows and next handle are the image's. Of the operations done, the first joined what waits for the rules, and what was done since
+-- stands by itself, as one stretch. What waits for each active rule is, of what the specification says waits for it, what is on the rule's
+-- own table, since nothing else wakes it or is shown to it.
 pub record Represents (xs tables : List ℕ) (s : State) : Type 0 where
   pub laid : Laid xs
   pub bytes : Bytes xs
   pub next : word32At xs NEXT ≡ s .image .next
   pub rows : liveRows xs ≡ s .image .rows
   pub ended : Ended tables
-  pub waiting : (k : ℕ) → k < 16 → waitsIn xs k ≡ ownOf (getD tables k 0) (waits s k)
+  pub joined : List RowOperation
+  pub since : List RowOperation
+  pub whole : s .done ≡ joined ++ since
+  pub marked : (k : ℕ) → getD (s .marks) k 0 ≤ length joined
+  pub waiting : (k : ℕ) → k < 16 → getD tables k 0 ≤ 3
+      → waitsIn xs k ≡ ownOf (getD tables k 0) (netEffect (drop (getD (s .marks) k 0) joined))
+  pub stretch : stretchIn xs ≡ netEffect since
+
+-- all of them joined what waits
+pub record Settled (xs tables : List ℕ) (s : State) : Type 0 where
+  pub represents : Represents xs tables s
+  pub none : represents .since ≡ []
 
 -- a state that a run reaches from a sound start image: its operations fit one after another
 pub record Reached (start : Image) (s : State) : Type 0 where
@@ -31,11 +43,19 @@ pub record Reached (start : Image) (s : State) : Type 0 where
   pub marked : (k : ℕ) → getD (s .marks) k 0 ≤ length (s .done)
 
 -- a room that represents such a state
-pub record Running (xs tables : List ℕ) : Type 0 where
+pub record Running (xs : List ℕ) : Type 0 where
+  pub tables : List ℕ
   pub start : Image
   pub state : State
   pub reached : Reached start state
   pub represents : Represents xs tables state
+
+-- and one that represents it for a rule to be considered
+pub record Ready (xs tables : List ℕ) : Type 0 where
+  pub start : Image
+  pub state : State
+  pub reached : Reached start state
+  pub settled : Settled xs tables state
 
 -- one operation more, and several
 unfoldable pub madeOne : RowOperation → State → State

@@ -50,8 +50,14 @@ WAITS = 10784
 abbrev pub WAIT : ℕ
 WAIT = 3076
 
+abbrev pub STRETCH : ℕ
+STRETCH = 60000
+
+abbrev pub SPARE : ℕ
+SPARE = 7704
+
 abbrev pub END : ℕ
-END = 60000
+END = 63076
 
 abbrev pub ROWS : ℕ
 ROWS = 64
@@ -74,6 +80,7 @@ pub record Laid (xs : List ℕ) : Type 0 where
   pub chosen : Stands CHOSEN ROWS xs
   pub worked : Stands WORKED ROWS xs
   pub waits : (k : ℕ) → k < 16 → Stands (waitAt k) ENTRIES xs
+  pub stretch : Stands STRETCH ENTRIES xs
 
 -- ys has what xs has from lo up to, not including, hi
 pub record Kept (lo hi : ℕ) (xs ys : List ℕ) : Type 0 where
@@ -136,6 +143,10 @@ transitionIn xs =
       oldUpdated = rowsMeant (tableAt xs OLD);
     }
 
--- what waits for rule k
+-- what waits for rule k, as far as it was joined
 unfoldable pub waitsIn : List ℕ → ℕ → NetEffect
 waitsIn xs k = waitMeant (tableAt xs (waitAt k))
+
+-- what was done since
+unfoldable pub stretchIn : List ℕ → NetEffect
+stretchIn xs = waitMeant (tableAt xs STRETCH)

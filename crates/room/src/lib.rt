@@ -20,10 +20,16 @@ pub const CHOSEN: usize = 7704;
 
 pub const WORKED: usize = 9244;
 
+// Where a table of what waits is woven: over both of these, which are empty between actions.
+pub const SPARE: usize = 7704;
+
 // What waits for each rule: sixteen tables, one after another.
 pub const WAITS: usize = 10784;
 
 pub const WAIT: usize = 3076;
+
+// What was done since it was last joined to what waits.
+pub const STRETCH: usize = 60000;
 
 // How many slots a table of rows has room for, and one of what waits.
 pub const ROWS: usize = 64;

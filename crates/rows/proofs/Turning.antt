@@ -1,15 +1,12 @@
 -- What a row operation leaves in the room. It changes the live rows and the next handle, which stand in front of all other tables, and then
--- what waits for the rules, which stands behind them: so what waits is joined as it was, and what stands between stays.
-use mathlib.Core.Path.{_≡_, refl, sym, ap, _∙_}
-use mathlib.Core.Bool.{Bool, true, false}
+-- what was done since the last joining, which stands behind them: so that is joined as it was, and what stands between stays.
+use mathlib.Core.Path.{_≡_, sym, _∙_}
 use mathlib.Core.List.{List, [], _∷_, _++_}
 use Prim.Native.Nat.{ℕ, suc, _+_, _≤_, _<_}
 use native.Mathlib.Numerals.{add-one}
 use native.Mathlib.Omega.{arith}
-use borrow.Author.Tests.{lt-ltb, le-ltb, ltb-false}
-use lib.Dec.{ltb}
+use borrow.Author.Tests.{lt-ltb, le-ltb}
 use lib.ListN.{getD, set}
-use Rattle.meaning.specs.Base.{if_then_else_}
 use Rattle.words.specs.Words.{word32At}
 use Rattle.slots.specs.declared.Slot.{Slot}
 use Rattle.slots.specs.declared.Found.{Found}
@@ -18,13 +15,21 @@ use Rattle.slots.specs.Slots.{tableAt, tableBytes, Frame, Stands, Holds, blank,
 use Rattle.slots.proofs.Frames.{frame-wider, frame-join, word-kept-below, PutWord}
 use Rattle.slots.proofs.Tables.{table-length, table-kept-below, table-kept-above, stands-kept-above}
 use Rattle.slots.proofs.Order.{find-at}
-use Rattle.room.specs.Room.{NEXT, LIVE, INSERTED, ROWS, waitAt, Laid}
-use Rattle.room.specs.Joins.{asEffect, joinIf, concerns, Joinable, AllJoined}
+use Rattle.room.specs.Room.{NEXT, LIVE, INSERTED, STRETCH, ROWS, ENTRIES, Laid}
+use Rattle.room.specs.Joins.{asEffect, joinSlots, Takes, Joinable}
 use Rattle.room.specs.Turned.{Turned}
 use Rattle.room.proofs.Kept.{laid-front, laid-behind}
 use Rattle.rows.specs.declared.Looked.the-variants.{Made}
 use Rattle.rows.specs.declared.Space.the-variants.{Enough, Full, UsedUp}
 use Rattle.rows.specs.Rows.{spaceFor, rowOf, insertedSlot, operationAt, Inserted, CanJoin, Deleted, Updated}
+
+-- what was done since the last joining can take an operation
+abbrev pub CanTake : List ℕ → Slot → Type 0
+CanTake xs op = Stands STRETCH ENTRIES xs × Takes op (tableAt xs STRETCH)
+
+-- and took it
+abbrev pub Joined : List ℕ → List ℕ → Slot → Type 0
+Joined xs ys op = Holds STRETCH ENTRIES xs ys (joinSlots op (tableAt xs STRETCH))
 
 -- ---- In front: the live rows and the next handle
 
@@ -60,35 +65,24 @@ module _ {xs ys : List ℕ} {live : List Slot} {n : ℕ} (f : Front xs ys live n
   pub front-laid : Laid xs → Laid ys
   front-laid l = laid-front l (f .frame) (f .stands)
 
-  front-waits : Laid xs → (k : ℕ) → k < 16 → tableAt ys (waitAt k) ≡ tableAt xs (waitAt k)
-  front-waits l k h = table-kept-above (f .frame) (waitAt k) 128 (l .waits k h) (omega arith)
+  front-stretch : Laid xs → tableAt ys STRETCH ≡ tableAt xs STRETCH
+  front-stretch l = table-kept-above (f .frame) STRETCH ENTRIES (l .stretch) (omega arith)
 
   -- an operation that could join still can
-  pub front-joinable : {tables : List ℕ} {op : Slot} → Joinable xs tables op → Joinable ys tables op
-  front-joinable j =
-      record {
-        laid = front-laid (j .laid);
-        ended = j .ended;
-        within = j .within;
-        takes = λ k h e. rw (front-waits (j .laid) k h) (j .takes k h e);
-      }
+  pub front-takes : {op : Slot} → Joinable xs op → CanTake ys op
+  front-takes j = (front-laid (j .laid) .stretch, rw (front-stretch (j .laid)) (j .takes))
 
--- ---- Behind: what waits for the rules
+-- ---- In front, and then behind
 
--- the tables in front of it stand as they did
-pub joined-laid : {xs ys tables : List ℕ} {op : Slot} → Laid xs → AllJoined xs ys tables op → Laid ys
-joined-laid l a = laid-behind l (a .frame) (a .stands)
-
--- both
-pub front-turned : {xs ys zs tables : List ℕ} {live : List Slot} {n : ℕ} {op : Slot} → Laid xs → Front xs ys live n
-    → AllJoined ys zs tables op → Turned xs zs tables live n op
+pub front-turned : {xs ys zs : List ℕ} {live : List Slot} {n : ℕ} {op : Slot} → Laid xs → Front xs ys live n → Joined ys zs op
+    → Turned xs zs live n op
 unfolding tableBytes
-front-turned {xs} {ys} {zs} {tables} {live} {n} {op} l f a =
+front-turned l f a =
     record {
-      laid = joined-laid (front-laid f l) a;
+      laid = laid-behind (front-laid f l) (a .frame) (a .stands);
       rows = table-kept-below (a .frame) LIVE ROWS (f .stands) (omega arith) ∙ f .rows;
       handle = word-kept-below (a .frame) NEXT (omega arith) ∙ f .handle;
-      waits = λ k h. a .waits k h ∙ ap (joinIf (concerns tables op k) op) (front-waits f l k h);
+      stretch = rw (← front-stretch f l) (a .list);
       between =
           record {
             len = a .frame .len ∙ f .frame .len;
@@ -112,12 +106,11 @@ module _ {xs ys zs : List ℕ} {new : Slot} (h table : ℕ) (e : Slot) (is : h �
   inserted-front : Front xs zs (tableAt xs LIVE ++ (insertedSlot xs table e ∷ [])) (suc (word32At xs NEXT))
   inserted-front = rw (← inserted-is, ← is, ← add-one h) (front-numbered (front-held held) put)
 
-  module _ {tables : List ℕ} {op : Slot} (tells : op ≡ asEffect 1 0 new)
-      (can : Joinable xs tables (asEffect 1 0 (insertedSlot xs table e))) where
-    pub insert-joinable : Joinable zs tables op
-    insert-joinable = rw (tells, inserted-is) (front-joinable inserted-front can)
+  module _ {op : Slot} (tells : op ≡ asEffect 1 0 new) (can : Joinable xs (asEffect 1 0 (insertedSlot xs table e))) where
+    pub insert-takes : CanTake zs op
+    insert-takes = rw (tells, inserted-is) (front-takes inserted-front can)
 
-    pub insert-turned : {ws : List ℕ} → AllJoined zs ws tables op → Inserted xs ws tables table e
+    pub insert-turned : {ws : List ℕ} → Joined zs ws op → Inserted xs ws table e
     insert-turned a = front-turned (can .laid) inserted-front (rw (tells, inserted-is) at a)
 
 -- ---- A delete and an update: of the row that was found
@@ -135,21 +128,20 @@ module _ (xs : List ℕ) {r : Found} (h i : ℕ) (asked : r ≡ findIn h (tableA
     unfolding operationAt
     told-is = tells ∙ rw read
 
-    pub found-joinable : {tables : List ℕ} → CanJoin xs tables kind mask (findIn h (tableAt xs LIVE)) → Joinable ys tables op
-    found-joinable can = rw told-is (front-joinable (front-held held) (rw found-at at can))
+    pub found-takes : CanJoin xs kind mask (findIn h (tableAt xs LIVE)) → CanTake ys op
+    found-takes can = rw told-is (front-takes (front-held held) (rw found-at at can))
 
-    pub found-turned : {tables zs : List ℕ} → Laid xs → AllJoined ys zs tables op
-        → Turned xs zs tables live (word32At xs NEXT) (operationAt xs kind mask i)
+    pub found-turned : {zs : List ℕ} → Laid xs → Joined ys zs op
+        → Turned xs zs live (word32At xs NEXT) (operationAt xs kind mask i)
     found-turned l a = front-turned l (front-held held) (rw told-is at a)
 
-  pub found-deleted : {tables zs : List ℕ}
-      → Turned xs zs tables (removeAt i (tableAt xs LIVE)) (word32At xs NEXT) (operationAt xs 2 0 i)
-      → Deleted xs zs tables (findIn h (tableAt xs LIVE)) Made
+  pub found-deleted : {zs : List ℕ} → Turned xs zs (removeAt i (tableAt xs LIVE)) (word32At xs NEXT) (operationAt xs 2 0 i)
+      → Deleted xs zs (findIn h (tableAt xs LIVE)) Made
   found-deleted t = rw found-at t
 
-  pub found-updated : (mask : ℕ) (new : Slot) {tables zs : List ℕ}
-      → Turned xs zs tables (set (tableAt xs LIVE) i new) (word32At xs NEXT) (operationAt xs 3 mask i)
-      → Updated xs zs tables mask new (findIn h (tableAt xs LIVE)) Made
+  pub found-updated : (mask : ℕ) (new : Slot) {zs : List ℕ}
+      → Turned xs zs (set (tableAt xs LIVE) i new) (word32At xs NEXT) (operationAt xs 3 mask i)
+      → Updated xs zs mask new (findIn h (tableAt xs LIVE)) Made
   found-updated mask new t = rw found-at t
 
 -- ---- Space
@@ -166,14 +158,3 @@ module _ (live next n : ℕ) where
   pub space-enough : live + n ≤ 64 → next + n ≤ 4294967295 → Enough ≡ spaceFor live next n
   unfolding spaceFor
   space-enough h u = rw (le-ltb 64 (live + n) h, le-ltb 4294967295 (next + n) u)
-
-  -- and the other way
-  pub enough-space : spaceFor live next n ≡ Enough → (live + n ≤ 64) × (next + n ≤ 4294967295)
-  unfolding spaceFor
-  enough-space q = by (ltb 64 (live + n)) refl (ltb 4294967295 (next + n)) refl q
-    where
-      by : (t : Bool) → ltb 64 (live + n) ≡ t → (u : Bool) → ltb 4294967295 (next + n) ≡ u
-          → (if t then Full else if u then UsedUp else Enough) ≡ Enough → (live + n ≤ 64) × (next + n ≤ 4294967295)
-      by true a u b e = absurd (let z : _≡_ {A = ℕ} 0 1 = cc in omega arith)
-      by false a true b e = absurd (let z : _≡_ {A = ℕ} 0 1 = cc in omega arith)
-      by false a false b e = (ltb-false 64 (live + n) a, ltb-false 4294967295 (next + n) b)

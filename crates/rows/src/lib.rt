@@ -1,5 +1,5 @@
-// The live rows, and the row operations on them: each is made on the rows and joins what waits for each
-// active rule on its own table.
+// The live rows, and the row operations on them: each is made on the rows and joins what was done since the
+// last joining.
 ghost use mathlib.Core.Path.{_≡_};
 ghost use Prim.Native.Nat.{_≤_, _<_};
 ghost use lib.ListN.{length};
@@ -66,25 +66,25 @@ fn row_of(handle: u32, table: u8, e: Slot) -> Slot
 }
 
 // A row with the next handle, which then rises by one.
-pub fn insert_row(room: &mut [u8], tables: [u8; 16], table: u8, e: Slot)
+pub fn insert_row(room: &mut [u8], table: u8, e: Slot)
     requires { ⌜ length (tableAt (now room) LIVE) < 64 ⌝ }
     requires { ⌜ word32At (now room) NEXT < 4294967295 ⌝ }
-    requires { ⌜ Joinable (now room) tables (asEffect 1 0 (insertedSlot (now room) table e)) ⌝ }
-    ensures { λ _. ⌜ Inserted (now (room .entry)) (now (room .exit)) tables table e ⌝ }
+    requires { ⌜ Joinable (now room) (asEffect 1 0 (insertedSlot (now room) table e)) ⌝ }
+    ensures { λ _. ⌜ Inserted (now (room .entry)) (now (room .exit)) table e ⌝ }
 {
     let handle = next(room);
     let new = row_of(handle, table, e);
     slots::push(room, room::LIVE, room::ROWS, new);
     words::put32(room, room::NEXT, handle + 1);
-    effects::join_all(room, tables, effects::as_effect(1, 0, new));
+    effects::join(room, 0, effects::as_effect(1, 0, new));
 }
 
 // The row with a handle goes.
-pub fn delete_row(room: &mut [u8], tables: [u8; 16], handle: u32) -> Looked
+pub fn delete_row(room: &mut [u8], handle: u32) -> Looked
     requires { ⌜ Laid (now room) ⌝ }
     requires { ⌜ Sorted (tableAt (now room) LIVE) ⌝ }
-    requires { ⌜ CanJoin (now room) tables 2 0 (findIn handle (tableAt (now room) LIVE)) ⌝ }
-    ensures { λ r. ⌜ Deleted (now (room .entry)) (now (room .exit)) tables (findIn handle (tableAt (now (room .entry)) LIVE)) r ⌝ }
+    requires { ⌜ CanJoin (now room) 2 0 (findIn handle (tableAt (now room) LIVE)) ⌝ }
+    ensures { λ r. ⌜ Deleted (now (room .entry)) (now (room .exit)) (findIn handle (tableAt (now (room .entry)) LIVE)) r ⌝ }
 {
     let found = slots::find(room, room::LIVE, room::ROWS, handle);
     let Found::At(i) = found else {
@@ -92,16 +92,16 @@ pub fn delete_row(room: &mut [u8], tables: [u8; 16], handle: u32) -> Looked
     };
     let old = slots::slot_at(room, room::LIVE, room::ROWS, i);
     slots::remove_at(room, room::LIVE, room::ROWS, i);
-    effects::join_all(room, tables, effects::as_effect(2, 0, old));
+    effects::join(room, 0, effects::as_effect(2, 0, old));
     Looked::Made
 }
 
 // A row in the place of the one with its handle; a near place is the first to try.
-pub fn update_row(room: &mut [u8], tables: [u8; 16], near: usize, mask: u8, new: Slot) -> Looked
+pub fn update_row(room: &mut [u8], near: usize, mask: u8, new: Slot) -> Looked
     requires { ⌜ Laid (now room) ⌝ }
     requires { ⌜ Sorted (tableAt (now room) LIVE) ⌝ }
-    requires { ⌜ CanJoin (now room) tables 3 mask (findIn (new .handle) (tableAt (now room) LIVE)) ⌝ }
-    ensures { λ r. ⌜ Updated (now (room .entry)) (now (room .exit)) tables mask new (findIn (new .handle) (tableAt (now (room .entry)) LIVE)) r ⌝ }
+    requires { ⌜ CanJoin (now room) 3 mask (findIn (new .handle) (tableAt (now room) LIVE)) ⌝ }
+    ensures { λ r. ⌜ Updated (now (room .entry)) (now (room .exit)) mask new (findIn (new .handle) (tableAt (now (room .entry)) LIVE)) r ⌝ }
 {
     let found = slots::find_near(room, room::LIVE, room::ROWS, near, new.handle);
     let Found::At(i) = found else {
@@ -109,6 +109,6 @@ pub fn update_row(room: &mut [u8], tables: [u8; 16], near: usize, mask: u8, new:
     };
     let old = slots::slot_at(room, room::LIVE, room::ROWS, i);
     slots::put_at(room, room::LIVE, room::ROWS, i, new);
-    effects::join_all(room, tables, effects::as_effect(3, mask, old));
+    effects::join(room, near, effects::as_effect(3, mask, old));
     Looked::Made
 }

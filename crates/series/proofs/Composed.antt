@@ -53,14 +53,16 @@ module _ {start : Image} {s : State} {ys tables : List ℕ} (reached : Reached s
   went-after (wentMade {os = os} g) (goesOn p) =
       record { new = os; is = refl; made = g; reached = reached-all reached g; represents = p }
 
-module _ {xs ys tables : List ℕ} {f : Image → Result} (makes : Makes f) (acts : Acts xs ys tables f Went) where
-  pub acts-after : {start : Image} {s : State} → Reached start s → Represents xs tables s → After start s ys tables (f (s .image))
-  acts-after {start} {s} reached p = went-after reached (makes .fit (s .image) (reached-sound reached)) (acts .follows start s reached p)
+module _ {xs ys : List ℕ} {f : Image → Result} (makes : Makes f) (acts : Acts xs ys f Went) where
+  pub acts-after : {tables : List ℕ} {start : Image} {s : State} → Reached start s → Represents xs tables s → After start s ys tables (f (s .image))
+  acts-after {tables} {start} {s} reached p =
+      went-after reached (makes .fit (s .image) (reached-sound reached)) (acts .follows tables start s reached p)
 
-  pub acts-running : Running xs tables → Running ys tables
+  pub acts-running : Running xs → Running ys
   acts-running run =
       let after = acts-after (run .reached) (run .represents) in
       record {
+        tables = run .tables;
         start = run .start;
         state = madeAll (after .new) (run .state);
         reached = after .reached;
@@ -76,20 +78,20 @@ following-follows {s = s} os (goesOn {os = new} p) = goesOn {os = os ++ new} (rw
 following-follows {s = s} os (rollsBack {os = new} p) = rollsBack {os = os ++ new} (rw (madeAll-append os new s) p)
 following-follows {s = s} os (fails {r = reason} {os = new} p) = fails {r = reason} {os = os ++ new} (rw (madeAll-append os new s) p)
 
-pub acts-then : {xs ys zs tables : List ℕ} {f g : Image → Result} {step : Step} → Makes f → Acts xs ys tables f Went
-    → Acts ys zs tables g step → Acts xs zs tables (λ m. andThen m (f m) g) step
+pub acts-then : {xs ys zs : List ℕ} {f g : Image → Result} {step : Step} → Makes f → Acts xs ys f Went
+    → Acts ys zs g step → Acts xs zs (λ m. andThen m (f m) g) step
 unfolding andThen madeAll
-acts-then {xs} {ys} {zs} {tables} {f} {g} {step} makes one two =
+acts-then {xs} {ys} {zs} {f} {g} {step} makes one two =
     let same : length ys ≡ length xs = one .beyond .len in
     record {
       laid = two .laid;
       shown = two .shown ∙ one .shown;
       beyond = kept-trans (one .beyond) (rw same at (two .beyond));
-      follows = λ start s reached p.
+      follows = λ tables start s reached p.
           let after = acts-after makes one reached p in
           rw (after .is)
           (following-follows (after .new)
-          (two .follows start (madeAll (after .new) s) (after .reached) (after .represents)));
+          (two .follows tables start (madeAll (after .new) s) (after .reached) (after .represents)));
     }
 
 -- a step that ends the run
@@ -103,44 +105,44 @@ unfolding andThen
 ends-follows m g endsRolledBack (rollsBack p) = rollsBack p
 ends-follows m g endsFailed (fails {r = r} p) = fails {r = r} p
 
-pub acts-ends : {xs ys tables : List ℕ} {f : Image → Result} {step : Step} (g : Image → Result) → Ends step
-    → Acts xs ys tables f step → Acts xs ys tables (λ m. andThen m (f m) g) step
+pub acts-ends : {xs ys : List ℕ} {f : Image → Result} {step : Step} (g : Image → Result) → Ends step
+    → Acts xs ys f step → Acts xs ys (λ m. andThen m (f m) g) step
 acts-ends g end one =
     record {
       laid = one .laid;
       shown = one .shown;
       beyond = one .beyond;
-      follows = λ start s reached p. ends-follows (s .image) g end (one .follows start s reached p);
+      follows = λ tables start s reached p. ends-follows (s .image) g end (one .follows tables start s reached p);
     }
 
 -- nothing is a step
-pub acts-nothing : {xs tables : List ℕ} → Running xs tables → Acts xs xs tables (λ m. went []) Went
+pub acts-nothing : {xs : List ℕ} → Running xs → Acts xs xs (λ m. went []) Went
 acts-nothing run =
     record {
       laid = run .represents .laid;
       shown = refl;
       beyond = kept-refl;
-      follows = λ start s reached p. goesOn {os = []} (rw (madeAll-none s) p);
+      follows = λ tables start s reached p. goesOn {os = []} (rw (madeAll-none s) p);
     }
 
 -- ---- A loop
 
 -- Between its start and now: the room is that of a run, its transition tables are the same, and what the rest does from now on is what the
 -- whole does from the start.
-pub record Onward (xs ys tables : List ℕ) (whole rest : Image → Result) : Type 0 where
-  pub running : Running ys tables
+pub record Onward (xs ys : List ℕ) (whole rest : Image → Result) : Type 0 where
+  pub running : Running ys
   pub shown : transitionIn ys ≡ transitionIn xs
-  pub acts : (zs : List ℕ) (step : Step) → Acts ys zs tables rest step → Acts xs zs tables whole step
+  pub acts : (zs : List ℕ) (step : Step) → Acts ys zs rest step → Acts xs zs whole step
 
-pub onward-start : {xs tables : List ℕ} (f : Image → Result) → Running xs tables → Onward xs xs tables f f
+pub onward-start : {xs : List ℕ} (f : Image → Result) → Running xs → Onward xs xs f f
 onward-start f run = record { running = run; shown = refl; acts = λ zs step a. a }
 
-module _ {xs ys tables : List ℕ} {whole : Image → Result} where
-  pub onward-done : Onward xs ys tables whole (λ m. went []) → Acts xs ys tables whole Went
+module _ {xs ys : List ℕ} {whole : Image → Result} where
+  pub onward-done : Onward xs ys whole (λ m. went []) → Acts xs ys whole Went
   onward-done on = on .acts ys Went (acts-nothing (on .running))
 
-  module _ {zs : List ℕ} {f : Image → Result} (g : Image → Result) (on : Onward xs ys tables whole (λ m. andThen m (f m) g)) where
-    pub onward-more : Makes f → Acts ys zs tables f Went → Onward xs zs tables whole g
+  module _ {zs : List ℕ} {f : Image → Result} (g : Image → Result) (on : Onward xs ys whole (λ m. andThen m (f m) g)) where
+    pub onward-more : Makes f → Acts ys zs f Went → Onward xs zs whole g
     onward-more makes a =
         record {
           running = acts-running makes a (on .running);
@@ -148,5 +150,5 @@ module _ {xs ys tables : List ℕ} {whole : Image → Result} where
           acts = λ ws step b. on .acts ws step (acts-then makes a b);
         }
 
-    pub onward-ends : {step : Step} → Ends step → Acts ys zs tables f step → Acts xs zs tables whole step
+    pub onward-ends : {step : Step} → Ends step → Acts ys zs f step → Acts xs zs whole step
     onward-ends {step} end a = on .acts zs step (acts-ends g end a)

@@ -39,34 +39,34 @@ actions-series t = record { nothing = refl; more = λ a others. refl }
 -- ---- The loop
 
 -- of `count` things from a place on, those that are left, from here on
-pub record Left {A : Type 0} (p : Parser A) (run : List A → Image → Result) (s xs ys tables : List ℕ)
+pub record Left {A : Type 0} (p : Parser A) (run : List A → Image → Result) (s xs ys : List ℕ)
     (count from left here : ℕ) : Type 0 where
-  pub onward : Onward xs ys tables (run (readable count p s from)) (run (readable left p s here))
+  pub onward : Onward xs ys (run (readable count p s from)) (run (readable left p s here))
 
-pub left-start : {A : Type 0} (p : Parser A) (run : List A → Image → Result) (s : List ℕ) {xs tables : List ℕ}
-    (count from : ℕ) → Running xs tables → Left p run s xs xs tables count from count from
+pub left-start : {A : Type 0} (p : Parser A) (run : List A → Image → Result) (s : List ℕ) {xs : List ℕ}
+    (count from : ℕ) → Running xs → Left p run s xs xs count from count from
 left-start p run s count from running = record { onward = onward-start (run (readable count p s from)) running }
 
-module _ {A : Type 0} {p : Parser A} {step : A → Image → Result} {run : List A → Image → Result} {s xs ys tables : List ℕ}
-    {count from left here : ℕ} (series : Series step run) (l : Left p run s xs ys tables count from left here) where
-  left-nothing : readable left p s here ≡ [] → Acts xs ys tables (run (readable count p s from)) Went
+module _ {A : Type 0} {p : Parser A} {step : A → Image → Result} {run : List A → Image → Result} {s xs ys : List ℕ}
+    {count from left here : ℕ} (series : Series step run) (l : Left p run s xs ys count from left here) where
+  left-nothing : readable left p s here ≡ [] → Acts xs ys (run (readable count p s from)) Went
   left-nothing e = onward-done (rw (e, series .nothing) at (l .onward))
 
-  pub left-done : left ≤ 0 → Acts xs ys tables (run (readable count p s from)) Went
+  pub left-done : left ≤ 0 → Acts xs ys (run (readable count p s from)) Went
   left-done h = left-nothing (readable-none p left s here h)
 
-  pub left-bad : p s here ≡ bad → Acts xs ys tables (run (readable count p s from)) Went
+  pub left-bad : p s here ≡ bad → Acts xs ys (run (readable count p s from)) Went
   left-bad e = left-nothing (readable-bad p left s here e)
 
   module _ {a : A} {next : ℕ} (some : 0 < left) (e : p s here ≡ got a next) where
-    then-rest : Onward xs ys tables (run (readable count p s from)) (λ m. andThen m (step a m) (run (readable (left - 1) p s next)))
+    then-rest : Onward xs ys (run (readable count p s from)) (λ m. andThen m (step a m) (run (readable (left - 1) p s next)))
     then-rest = rw (readable-more p left s here a next some e, series .more a (readable (left - 1) p s next)) at (l .onward)
 
-    pub left-more : {zs : List ℕ} → Makes (step a) → Acts ys zs tables (step a) Went → Left p run s xs zs tables count from (left - 1) next
+    pub left-more : {zs : List ℕ} → Makes (step a) → Acts ys zs (step a) Went → Left p run s xs zs count from (left - 1) next
     left-more makes acts = record { onward = onward-more (run (readable (left - 1) p s next)) then-rest makes acts }
 
-    pub left-ends : {zs : List ℕ} {r : Step} → Ends r → Acts ys zs tables (step a) r
-        → Acts xs zs tables (run (readable count p s from)) r
+    pub left-ends : {zs : List ℕ} {r : Step} → Ends r → Acts ys zs (step a) r
+        → Acts xs zs (run (readable count p s from)) r
     left-ends end acts = onward-ends (run (readable (left - 1) p s next)) then-rest end acts
 
 -- ---- What they make

@@ -12,16 +12,16 @@ use changes::Step;
 use log::OperationRead;
 
 // The first `count` operations of a log.
-pub fn run_log(room: &mut [u8], tables: [u8; 16], log: &[u8], count: usize) -> Step
-    requires { ⌜ Running (now room) tables ⌝ }
-    ensures { λ r. ⌜ Acts (now (room .entry)) (now (room .exit)) tables (runLog (readable count operation (now (log .entry)) 7)) r ⌝ }
+pub fn run_log(room: &mut [u8], log: &[u8], count: usize) -> Step
+    requires { ⌜ Running (now room) ⌝ }
+    ensures { λ r. ⌜ Acts (now (room .entry)) (now (room .exit)) (runLog (readable count operation (now (log .entry)) 7)) r ⌝ }
 {
     let mut left = count;
     let mut here = log::FIRST;
     while 0 < left {
         match log::operation_at(log, here) {
             OperationRead::Is { operation, next } => {
-                match action::operate(room, tables, log, operation) {
+                match action::operate(room, log, operation) {
                     Step::Went => {}
                     Step::RolledBack => {
                         return Step::RolledBack;
@@ -42,22 +42,17 @@ pub fn run_log(room: &mut [u8], tables: [u8; 16], log: &[u8], count: usize) -> S
 }
 
 // The actions of a rule with these triggers, on the transition tables that stand in the room.
-pub fn run_actions(
-    room: &mut [u8],
-    tables: [u8; 16],
-    book: &[u8],
-    triggers: usize,
-    actions: Actions,
-) -> Step
-    requires { ⌜ Running (now room) tables ⌝ }
-    ensures { λ r. ⌜ Acts (now (room .entry)) (now (room .exit)) tables (runActions (transitionIn (now (room .entry))) (actionsMeant (now (book .entry)) triggers actions)) r ⌝ }
+pub fn run_actions(room: &mut [u8], book: &[u8], triggers: usize, actions: Actions) -> Step
+    requires { ⌜ Running (now room) ⌝ }
+    ensures { λ r. ⌜ Acts (now (room .entry)) (now (room .exit))
+        (runActions (transitionIn (now (room .entry))) (actionsMeant (now (book .entry)) triggers actions)) r ⌝ }
 {
     let mut left = actions.count;
     let mut here = actions.first;
     while 0 < left {
         match book::action_at(book, triggers, here) {
             ActionRead::Is { action, next } => {
-                match action::perform(room, tables, book, triggers, action) {
+                match action::perform(room, book, triggers, action) {
                     Step::Went => {}
                     Step::RolledBack => {
                         return Step::RolledBack;

@@ -1,5 +1,5 @@
--- The loops of the tables, of lists alone: the search by halving, the bytes that move up or down by a slot, and the clearing of bytes. Each
--- has an invariant with a lemma for its start, its turn and its end.
+-- The loops of the tables, of lists alone: the search by halving, the bytes that move up or down by a slot, the bytes copied to a place
+-- after them, and the clearing of bytes. Each has an invariant with a lemma for its start, its turn and its end.
 use mathlib.Core.Path.{_≡_, refl, sym, ap, _∙_, subst}
 use mathlib.Core.List.{List, [], _∷_, _++_}
 use Prim.Native.Nat.{ℕ, zero, suc, _+_, _-_, _≤_, _<_}
@@ -11,7 +11,7 @@ use lib.ListN.{length, getD, drop, set, replicate, length-set}
 use lib.Seq.{getD-set-same, getD-set-other}
 use Rattle.words.proofs.Laws.{split}
 use Rattle.slots.specs.declared.Slot.{Slot}
-use Rattle.slots.specs.Slots.{Frame, MovedUp, MovedDown, blank, placeIn, Sorted}
+use Rattle.slots.specs.Slots.{Frame, MovedUp, MovedDown, Copied, blank, placeIn, Sorted}
 use Rattle.slots.proofs.Frames.{frame-refl, frame-wider, frame-join}
 use Rattle.slots.proofs.Order.{place-is, sorted-le}
 
@@ -139,6 +139,39 @@ pub lower-done : {x0 x : List ℕ} (at n j : ℕ) → (j ≤ n) × MovedDown x0 
 lower-done {x0} {x} at n j d h =
     let q : j ≡ n = omega (arith, d .0) in
     subst (λ (m : ℕ). MovedDown x0 x at m) q (d .1)
+
+-- ---- The bytes copied to a place after them all: one more
+
+pub copy-start : (x : List ℕ) (from to : ℕ) → Copied x x from to 0
+copy-start x from to = record { frame = frame-refl; copied = record { same = λ j p. absurd (omega arith) } }
+
+pub copy-step : {x0 x : List ℕ} (from to j : ℕ) → Copied x0 x from to j → from + j < to → to + j < length x0
+    → Copied x0 (set x (to + j) (getD x (from + j) 0)) from to (j + 1)
+copy-step {x0} {x} from to j d before fits =
+    let v : ℕ = getD x (from + j) 0 in
+    let one = byte-frame x (to + j) v in
+    let len : length x ≡ length x0 = d .frame .len in
+    record {
+      frame = frame-join (d .frame) one (omega arith) (omega arith) (omega arith) (omega arith);
+      copied =
+          record {
+            same =
+                λ k p.
+                split (ltb k j)
+                (λ e.
+                let c : k < j = ltb-true k j e in
+                one .below (to + k) (omega arith) ∙ d .copied .same k c)
+                (λ e.
+                let q : j ≡ k = omega (arith, ltb-false k j e) in
+                subst (λ (m : ℕ). getD (set x (to + j) v) (to + m) 0 ≡ getD x0 (from + m) 0) q
+                (getD-set-same x (to + j) v 0 (omega arith) ∙ d .frame .below (from + j) before));
+          };
+    }
+
+pub copy-done : {x0 x : List ℕ} (from to n j : ℕ) → (j ≤ n) × Copied x0 x from to j → n ≤ j → Copied x0 x from to n
+copy-done {x0} {x} from to n j d h =
+    let q : j ≡ n = omega (arith, d .0) in
+    subst (λ (m : ℕ). Copied x0 x from to m) q (d .1)
 
 -- ---- The clearing: the first i bytes are zero, and the others as they were
 

@@ -1,6 +1,6 @@
 -- The slots from a place on and the table at a base: their lengths, their slots, and that they stay where a change is outside them.
 -- A stored slot takes its place in the list, a stored size makes the table the slots that it counts, and slots whose bytes move up or
--- down are the list's, a place later or earlier.
+-- down are the list's, a place later or earlier; slots whose bytes are copied after others are the list's after theirs.
 use mathlib.Core.Path.{_≡_, refl, sym, ap, _∙_}
 use mathlib.Core.List.{List, [], _∷_, _++_}
 use Prim.Native.Nat.{ℕ, zero, suc, _+_, _-_, _*_, _/_, _%_, _≤_, _<_}
@@ -9,7 +9,7 @@ use lib.ListN.{length, getD, take, drop, set, take-append-drop, List·getD-eq-de
 use Rattle.words.specs.Words.{Bytes, word32At}
 use Rattle.slots.specs.declared.Slot.{Slot}
 use Rattle.slots.specs.Slots.{slotAt, slotsFrom, tableAt, tableBytes, Frame, Stands, Holds, Stored}
-use Rattle.slots.specs.Slots.{Alike, MovedUp, MovedDown, blank, valueOf, withKind, withMarks, insertAt, removeAt}
+use Rattle.slots.specs.Slots.{Alike, MovedUp, MovedDown, Copied, blank, valueOf, withKind, withMarks, insertAt, removeAt}
 use Rattle.slots.proofs.Frames.{frame-wider, frame-join, alike-rest, slot-alike, kept-below, kept-above}
 use Rattle.slots.proofs.Frames.{word-kept-below, word-kept-above, Fits, slot-fits, blank-fits, PutWord}
 
@@ -252,4 +252,25 @@ removed {xs} {ys} {zs} base most n i s q h u w =
       slots-drop xs at (suc i) n (omega arith),
       less,
       next,
+    )))
+
+-- the slots of a table, copied after the first ones of another, and a size that counts both
+pub tailed : {xs ys zs : List ℕ} (base most first from n : ℕ) → Stands base most xs → n ≡ word32At xs from → first ≤ word32At xs base
+    → first + n ≤ most → Copied xs ys (from + 4) (base + 4 + 24 * first) (24 * n) → PutWord ys zs base (first + n)
+    → Holds base most xs zs (take first (tableAt xs base) ++ tableAt xs from)
+unfolding tableAt tableBytes
+tailed {xs} {ys} {zs} base most first from n s q h room u w =
+    let at : ℕ = base + 4 in
+    let here : ℕ = base + 4 + 24 * first in
+    let f : Frame base (base + tableBytes most) xs ys = frame-wider (u .frame) (omega arith) (omega arith) in
+    let rest : first + n - first ≡ n = omega arith in
+    holds-after base most f
+    (resized base most (first + n) w room (rw (f .len) (s .fits))
+    (slots-cut ys at first (first + n) (omega arith)
+    ∙ rw (
+      rest,
+      slots-kept-below (u .frame) at first (omega arith),
+      slots-alike (from + 4) here n (u .copied),
+      ← q,
+      slots-take xs at first (word32At xs base) h,
     )))

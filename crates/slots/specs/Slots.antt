@@ -74,6 +74,11 @@ pub record MovedDown (xs ys : List ℕ) (at n : ℕ) : Type 0 where
   pub frame : Frame at (at + n) xs ys
   pub moved : Alike xs ys (at + 24) at n
 
+-- the n bytes from a place on stand once more at another, and nothing else changed
+pub record Copied (xs ys : List ℕ) (from to n : ℕ) : Type 0 where
+  pub frame : Frame to (to + n) xs ys
+  pub copied : Alike xs ys from to n
+
 abbrev pub blank : Slot
 blank = record { handle = 0; kind = 0; mask = 0; table = 0; v0 = 0; v1 = 0; v2 = 0; v3 = 0 }
 

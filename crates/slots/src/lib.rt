@@ -4,10 +4,10 @@
 ghost use mathlib.Core.Path.{_≡_};
 ghost use mathlib.Core.List.{[], _++_, _∷_};
 ghost use Prim.Native.Nat.{_+_, _*_, _/_, _%_, _≤_, _<_};
-ghost use lib.ListN.{length, getD, set, drop, replicate};
+ghost use lib.ListN.{length, getD, set, take, drop, replicate};
 ghost use Rattle.words.specs.Words.{word32At};
-ghost use Rattle.slots.specs.Slots.{slotAt, tableAt, tableBytes, valueOf, withValue, withKind, withMarks, Stands};
-ghost use Rattle.slots.specs.Slots.{Holds, Stored, MovedUp, MovedDown, Sorted, insertAt, removeAt, placeIn, hit, findIn, blank};
+ghost use Rattle.slots.specs.Slots.{slotAt, tableAt, tableBytes, valueOf, withValue, withKind, withMarks, Stands, Holds};
+ghost use Rattle.slots.specs.Slots.{Stored, MovedUp, MovedDown, Copied, Sorted, insertAt, removeAt, placeIn, hit, findIn, blank};
 
 // A row, an effect on a row, or a row operation: what each field means is the table's owner's to say.
 pub struct Slot {
@@ -340,6 +340,35 @@ pub fn push_place(room: &mut [u8], base: usize, most: usize, from: usize, held: 
     let marks = words::word32(room, at + 4) % 16777216 + (i % 256) as u32 * 16777216;
     copy(room, at, base + HEAD + SLOT * end, marks);
     words::put32(room, base, (end + 1) as u32);
+}
+
+// The n bytes from a place on once more, at a place after them all. Bytes, so that the compiler moves many at a time.
+fn copy_bytes(room: &mut [u8], from: usize, to: usize, n: usize)
+    requires { ⌜ from + n ≤ to ⌝ }
+    requires { ⌜ to + n ≤ length (now room) ⌝ }
+    ensures { λ _. ⌜ Copied (now (room .entry)) (now (room .exit)) from to n ⌝ }
+{
+    let mut j: usize = 0;
+    while j < n {
+        room[to + j] = room[from + j];
+        j += 1;
+    }
+}
+
+// The table at a base keeps its slots before a place; after them stand those of another table, which lies below it.
+pub fn put_tail(room: &mut [u8], base: usize, most: usize, first: usize, from: usize, held: usize)
+    requires { ⌜ Stands base most (now room) ⌝ }
+    requires { ⌜ most < 4294967296 ⌝ }
+    requires { ⌜ Stands from held (now room) ⌝ }
+    requires { ⌜ from + tableBytes held ≤ base ⌝ }
+    requires { ⌜ first ≤ word32At (now room) base ⌝ }
+    requires { ⌜ first + word32At (now room) from ≤ most ⌝ }
+    ensures { λ _. ⌜ Holds base most (now (room .entry)) (now (room .exit))
+        (take first (tableAt (now (room .entry)) base) ++ tableAt (now (room .entry)) from) ⌝ }
+{
+    let n = size(room, from);
+    copy_bytes(room, from + HEAD, base + HEAD + SLOT * first, SLOT * n);
+    words::put32(room, base, (first + n) as u32);
 }
 
 // The table has no slot any more.

@@ -42,7 +42,8 @@ fn hand_back(out: &mut [u8], image: &[u8], room: &[u8], outcome: Outcome)
     requires { ⌜ Stands LIVE ROWS (now room) ⌝ }
     requires { ⌜ 1355 ≤ length (now out) ⌝ }
     requires { ⌜ length (now image) ≤ 1355 ⌝ }
-    ensures { λ _. ⌜ now (out .exit) ≡ inFrontOf (handed (committed outcome) (now (image .entry)) (now (room .entry))) (now (out .entry)) ⌝ }
+    ensures { λ _. ⌜ now (out .exit) ≡ inFrontOf (handed (committed outcome) (now (image .entry)) (now (room .entry)))
+        (now (out .entry)) ⌝ }
 {
     if commits(outcome) {
         output::put_image(out, room);
@@ -62,7 +63,8 @@ pub fn transact(
     requires { ⌜ Accepts (now image) (now book) a ⌝ }
     requires { ⌜ 1355 ≤ length (now out) ⌝ }
     requires { ⌜ 65536 ≤ length (now room) ⌝ }
-    ensures { λ r. ⌜ Transacts (now (image .entry)) (now (book .entry)) (now (log .entry)) a (now (out .entry)) (now (out .exit)) (now (room .entry)) (now (room .exit)) r ⌝ }
+    ensures { λ r. ⌜ Transacts (now (image .entry)) (now (book .entry)) (now (log .entry)) a (now (out .entry)) (now (out .exit))
+        (now (room .entry)) (now (room .exit)) r ⌝ }
 {
     loading::load(room, image, a.next, a.rows);
     let e = processing::process(room, book, log, a.plan, a.limit, a.operations);

@@ -19,12 +19,12 @@ use Rattle.slots.specs.declared.Slot.{Slot}
 use Rattle.slots.specs.Slots.{tableAt, tableBytes, Frame, Stands, Holds, Sorted, blank}
 use Rattle.slots.proofs.Frames.{frame-refl, frame-trans, frame-wider, frame-join, word-kept-above}
 use Rattle.slots.proofs.Tables.{table-length, table-kept-below, table-kept-above, stands-kept-below, stands-kept-above}
-use Rattle.room.specs.Room.{LIVE, INSERTED, DELETED, NEW, OLD, CHOSEN, WORKED, END, ROWS, ENTRIES, waitAt, Laid}
+use Rattle.room.specs.Room.{LIVE, INSERTED, DELETED, NEW, OLD, CHOSEN, WORKED, STRETCH, END, ROWS, ENTRIES, waitAt, Laid}
 use Rattle.room.specs.Room.{rowsMeant, entryMeant, waitMeant, liveRows, transitionIn, waitsIn}
 use Rattle.room.specs.Drawn.{drawnFor, Few, Drew}
 use Rattle.slots.proofs.Order.{strict}
 use Rattle.room.proofs.Live.{rows-length}
-use Rattle.room.proofs.Kept.{kept-below, kept-above, transition-kept, laid-behind}
+use Rattle.room.proofs.Kept.{kept-below, kept-above, transition-kept}
 use Rattle.transition.proofs.Lookups.{live-kept, rows-kept, still-live}
 use Rattle.transition.specs.Shown.{slotIn, RoomFor, Grown, Live, insertedOf, deletedOf, newOf, oldOf, Ready, Shown, Bare, Emptied}
 
@@ -78,6 +78,7 @@ module _ {xs ys : List ℕ} (w : Laid xs) (f : Frame INSERTED CHOSEN xs ys) wher
         chosen = stands-kept-above f CHOSEN ROWS (w .chosen) (omega arith);
         worked = stands-kept-above f WORKED ROWS (w .worked) (omega arith);
         waits = λ j h. stands-kept-above f (waitAt j) ENTRIES (w .waits j h) (omega arith);
+        stretch = stands-kept-above f STRETCH ENTRIES (w .stretch) (omega arith);
       }
 
 -- what the loop leans on, of the room that it begins with
@@ -286,7 +287,19 @@ module _ {x y : List ℕ} (k : ℕ) (w : Laid x) (b : k < 16) (h : Holds (waitAt
 
   laid-after : Laid y
   unfolding tableBytes
-  laid-after = laid-behind w (frame-wider (h .frame) (omega arith) (omega arith)) waits-stand
+  laid-after =
+      record {
+        long = rw (h .frame .len) (w .long);
+        live = stands-kept-below (h .frame) LIVE ROWS (w .live) (omega arith);
+        inserted = stands-kept-below (h .frame) INSERTED ROWS (w .inserted) (omega arith);
+        deleted = stands-kept-below (h .frame) DELETED ROWS (w .deleted) (omega arith);
+        new = stands-kept-below (h .frame) NEW ROWS (w .new) (omega arith);
+        old = stands-kept-below (h .frame) OLD ROWS (w .old) (omega arith);
+        chosen = stands-kept-below (h .frame) CHOSEN ROWS (w .chosen) (omega arith);
+        worked = stands-kept-below (h .frame) WORKED ROWS (w .worked) (omega arith);
+        waits = waits-stand;
+        stretch = stands-kept-above (h .frame) STRETCH ENTRIES (w .stretch) (omega arith);
+      }
 
 pub draw-done : {rule : Rule} {xs x0 x y : List ℕ} (k n left : ℕ) → Laid xs → Emptied xs x0
     → Drawing rule k x0 x n left → left ≤ 0 → Holds (waitAt k) ENTRIES x y [] → Drew xs y k rule
@@ -294,13 +307,14 @@ unfolding tableBytes
 draw-done {rule} {xs} {x0} {x} {y} k n left w e d z h =
     let b : k < 16 = d .begun .within in
     let f : Frame INSERTED CHOSEN xs x = frame-trans (e .frame) (d .frame) in
-    let g : Frame INSERTED END xs y = frame-join f (h .frame) (omega arith) (omega arith) (omega arith) (omega arith) in
+    let g : Frame INSERTED STRETCH xs y = frame-join f (h .frame) (omega arith) (omega arith) (omega arith) (omega arith) in
     let wx : Laid x = draw-laid k n left d in
     record {
       laid = laid-after k wx b h;
       tables = tables-kept k wx b h ∙ draw-tables k n left d z ∙ drawn-kept w (e .frame) k rule b;
       emptied = h .list;
       others = λ j m q. others-kept k wx b h j m q ∙ wait-kept w f j m;
+      stretch = table-kept-above g STRETCH ENTRIES (w .stretch) (omega arith);
       before = kept-below g;
-      beyond = kept-above g;
+      beyond = kept-above {lo = INSERTED} (frame-wider g (omega arith) (omega arith));
     }

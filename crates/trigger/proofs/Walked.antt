@@ -12,7 +12,7 @@ use Rattle.meaning.specs.Base.{firstWith}
 use Rattle.meaning.specs.Processing.{State, triggered, firstTriggered}
 use Rattle.plan.specs.declared.Plan.{Plan}
 use Rattle.plan.specs.Plans.{rulesIn}
-use Rattle.room.specs.Represents.{Represents}
+use Rattle.room.specs.Represents.{Settled}
 use Rattle.trigger.specs.declared.Next.the-variants as next
 use Rattle.trigger.specs.Triggers.{nextMeant, orderIn, Numbers, Triggers, TriggersFirst}
 
@@ -37,7 +37,7 @@ ahead-none l n (suc m) h = absurd (omega arith)
 pub record Walked (xs s : List ℕ) (plan : Plan) (n left : ℕ) : Type 0 where
   pub high : left ≤ n
   pub long : n ≤ length (plan .order .rules)
-  pub rest : (state : State) → Represents xs (plan .tables) state
+  pub rest : (state : State) → Settled xs (plan .tables) state
       → firstTriggered (rulesIn s (plan .count)) (orderIn plan) state
       ≡ firstWith (triggered (rulesIn s (plan .count)) state) (ahead (plan .order .rules) n left)
 

@@ -8,7 +8,7 @@ use lib.ListN.{take, getD}
 use Rattle.meaning.specs.Processing.{State, triggered, firstTriggered}
 use Rattle.plan.specs.declared.Plan.{Plan}
 use Rattle.plan.specs.Plans.{rulesIn}
-use Rattle.room.specs.Represents.{Represents}
+use Rattle.room.specs.Represents.{Settled}
 use Rattle.trigger.specs.declared.Next.{Next}
 use Rattle.trigger.specs.declared.Next.the-variants as next
 
@@ -24,11 +24,11 @@ orderIn plan = take (plan .count) (plan .order .rules)
 pub record Numbers (plan : Plan) : Type 0 where
   pub rule : (i : ℕ) → i < plan .count → getD (plan .order .rules) i 0 < plan .count
 
--- for every state that the room represents, rule k is triggered or not
+-- for every state that the room represents, all settled, rule k is triggered or not
 pub record Triggers (xs s : List ℕ) (plan : Plan) (k : ℕ) (r : Bool) : Type 0 where
-  pub is : (state : State) → Represents xs (plan .tables) state → r ≡ triggered (rulesIn s (plan .count)) state k
+  pub is : (state : State) → Settled xs (plan .tables) state → r ≡ triggered (rulesIn s (plan .count)) state k
 
--- for every state that the room represents, the first triggered rule in total order
+-- for every state that the room represents, all settled, the first triggered rule in total order
 pub record TriggersFirst (xs s : List ℕ) (plan : Plan) (r : Next) : Type 0 where
-  pub is : (state : State) → Represents xs (plan .tables) state
+  pub is : (state : State) → Settled xs (plan .tables) state
       → nextMeant r ≡ firstTriggered (rulesIn s (plan .count)) (orderIn plan) state

@@ -5,7 +5,6 @@ ghost use Rattle.room.specs.Room.{Laid};
 ghost use Rattle.plan.specs.Plans.{Planned};
 ghost use Rattle.trigger.specs.Triggers.{Triggers, TriggersFirst, Numbers};
 use book::Head;
-use book::HeadRead;
 use plan::Plan;
 use room::Watch;
 
@@ -37,11 +36,17 @@ fn is_triggered(room: &[u8], s: &[u8], plan: Plan, k: usize) -> bool
     if 3 < tables[k] {
         return false;
     }
-    let starts = plan.starts;
-    match book::head_at(s, plan.count, starts[k]) {
-        HeadRead::Is { head } => effects::triggered(room, k, watch(head)),
-        HeadRead::Bad => false,
-    }
+    let triggers = plan.triggers;
+    let columns = plan.columns;
+    effects::triggered(
+        room,
+        k,
+        Watch {
+            table: words::wide(tables[k]),
+            triggers: words::wide(triggers[k]),
+            columns: words::wide(columns[k]),
+        },
+    )
 }
 
 // The first triggered rule in total order.

@@ -8,10 +8,10 @@ use Rattle.changes.proofs.delete_all.Statement.{statement}
 use Rattle.changes.proofs.delete_all.Tie as tie
 
 abbrev Inv-loop : tie.InvT-loop
-Inv-loop room₀ tables n i₀ room i = Taking room₀ room tables (deletions room₀) i
+Inv-loop room₀ n i₀ room i = Taking room₀ room (deletions room₀) i
 
 abbrev μ-loop : tie.MeasureT-loop
-μ-loop room₀ tables n i₀ room i = n - i
+μ-loop room₀ n i₀ room i = n - i
 
 size-requires : tie.Need-size-requires Inv-loop μ-loop
 size-requires c κs = omega (arith, c .before .before .pre .0 .represents .laid .long)

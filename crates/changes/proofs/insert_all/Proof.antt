@@ -8,10 +8,10 @@ use Rattle.changes.proofs.insert_all.Statement.{statement}
 use Rattle.changes.proofs.insert_all.Tie as tie
 
 abbrev Inv-loop : tie.InvT-loop
-Inv-loop room₀ tables table n left₀ room left = Inserting room₀ room tables table n left
+Inv-loop room₀ table n left₀ room left = Inserting room₀ room table n left
 
 abbrev μ-loop : tie.MeasureT-loop
-μ-loop room₀ tables table n left₀ room left = left
+μ-loop room₀ table n left₀ room left = left
 
 size-requires : tie.Need-size-requires Inv-loop μ-loop
 size-requires c κs = omega (arith, c .before .before .pre .0 .represents .laid .long)
@@ -37,7 +37,7 @@ returns-2 c =
     used-up-acts _ _ (start .pre .0) (sized .size .ensures) (sym (asked .space-for .ensures) ∙ c .enum-told2 .given .1)
 
 loop-holds : tie.Need-loop-holds Inv-loop μ-loop
-loop-holds c = inserting-start _ _ _ _
+loop-holds c = inserting-start _ _ _
 
 sub-slot-at : tie.Need-sub-slot-at Inv-loop μ-loop
 sub-slot-at c = c .before .before .loop .inv .few

@@ -8,10 +8,10 @@ use Rattle.changes.proofs.update_all.Statement.{statement}
 use Rattle.changes.proofs.update_all.Tie as tie
 
 abbrev Inv-loop : tie.InvT-loop
-Inv-loop room₀ tables mask n left₀ room left = Updating room₀ room tables mask n left
+Inv-loop room₀ mask n left₀ room left = Updating room₀ room mask n left
 
 abbrev μ-loop : tie.MeasureT-loop
-μ-loop room₀ tables mask n left₀ room left = left
+μ-loop room₀ mask n left₀ room left = left
 
 size-requires : tie.Need-size-requires Inv-loop μ-loop
 size-requires c κs = omega (arith, c .before .before .pre .0 .represents .laid .long)

@@ -13,17 +13,18 @@ use Rattle.consider.proofs.consider.Tie as tie
 
 draw-requires : tie.Need-draw-requires
 draw-requires c κs =
-    let start = c .before .before .before .before .before .before .before .before .before .before .before .before in
-    let run = start .pre .0 in
+    let start = c .before .before .before .before .before .before .before .before .before .before .before in
+    let ready = start .pre .0 in
+    let there = ready .settled .represents in
     let low : start .args .k < 16 = omega (arith, start .pre .1 .0) in
-    let few = draw-few (run .reached) (run .represents) _ low _ in
-    (run .represents .laid, (low, (live-sorted (run .reached) (run .represents), few)))
+    let few = draw-few (ready .settled) _ low (start .pre .1 .1 .1) (ready .reached) _ in
+    (there .laid, (low, (live-sorted (ready .reached) there, few)))
 
 run-actions-requires : tie.Need-run-actions-requires
 run-actions-requires c κs =
     let known = c .before .before .before .before in
     let drew = known .before .before in
-    let start = drew .before .before .before .before .before .before .before .before .before .before .before .before .before in
+    let start = drew .before .before .before .before .before .before .before .before .before .before .before .before in
     running-drawn (start .pre .0) (drew .draw .ensures) (λ i. known .slice-known2 .given i .fits)
 
 returns : tie.Need-returns
@@ -35,7 +36,7 @@ returns c =
     let looked = drew .before in
     let at-rule = looked .before .before .before .before .before in
     let read = at-rule .before .before in
-    let start = read .before .before .before .before .before in
+    let start = read .before .before .before .before in
     let pre = start .pre in
     let d =
     drawn (pre .1 .0) (pre .1 .1 .0) (pre .1 .1 .1) (read .rule-at .ensures) (at-rule .rule .given .1) (looked .watch .ensures)
@@ -50,7 +51,7 @@ returns-2 c =
     let looked = drew .before in
     let at-rule = looked .before .before .before .before .before in
     let read = at-rule .before .before in
-    let start = read .before .before .before .before .before in
+    let start = read .before .before .before .before in
     let pre = start .pre in
     let d =
     drawn (pre .1 .0) (pre .1 .1 .0) (pre .1 .1 .1) (read .rule-at .ensures) (at-rule .rule .given .1) (looked .watch .ensures)
@@ -60,7 +61,7 @@ returns-2 c =
 returns-3 : tie.Need-returns-3
 returns-3 c =
     let read = c .before .before in
-    let start = read .before .before .before .before .before in
+    let start = read .before .before .before .before in
     absurd (can-read (start .pre .1 .1 .0 .placed _ (start .pre .1 .0 .1)) (read .rule-at .ensures) (c .enum-told .given .1))
 
 pub consider-spec : {M : Type 1} → statement M

@@ -7,9 +7,8 @@ use mathlib.Core.Bool.{true}
 use mathlib.Core.List.{List}
 use Prim.Native.Nat.{ℕ, _<_}
 use native.Mathlib.Omega.{arith}
-use lib.ListN.{getD}
 use Rattle.words.specs.Words.{word32At}
-use Rattle.slots.specs.Slots.{tableAt, hit, blank}
+use Rattle.slots.specs.Slots.{tableAt, hit}
 use Rattle.slots.proofs.Tables.{table-length}
 use Rattle.effects.proofs.Joining.{hit-true, hit-place, inserted-stays, updated-stays, joined-same}
 use Rattle.effects.proofs.stays.Statement.{statement}

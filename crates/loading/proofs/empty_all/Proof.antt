@@ -7,18 +7,19 @@ use Rattle.loading.proofs.empty_all.Tie as tie
 
 returns : tie.Need-returns
 returns c =
-    let waits = c .before .before in
+    let stretch = c .before .before in
+    let waits = stretch .before .before .before .before in
     let worked = waits .before .before .before .before in
     let chosen = worked .before .before .before .before in
     let transition = chosen .before .before .before .before in
     let live = transition .before .before .before .before in
     let start = live .before .before .before in
     all-emptied (start .pre) (live .empty .ensures) (transition .empty-tables .ensures) (chosen .empty2 .ensures)
-    (worked .empty3 .ensures) (waits .empty-waits .ensures)
+    (worked .empty3 .ensures) (waits .empty-waits .ensures) (stretch .empty4 .ensures)
 
 pub empty-all-spec : {M : Type 1} → statement M
 unfolding tableBytes
 empty-all-spec =
     tie.close
     (tie.spec (λ c κs. omega arith) (λ c κs. omega arith) (λ c κs. omega arith) (λ c κs. omega arith) (λ c κs. omega arith)
-    (λ c. returns c .frame .len) returns)
+    (λ c κs. omega arith) (λ c. returns c .frame .len) returns)

@@ -1,8 +1,8 @@
--- `plan::outline_at` meets its contract: what the decoder read is the rule, whose head is that rule's and whose table is at most 3.
+-- `plan::outline_at` meets its contract: what the decoder read is the rule, whose head is that rule's and fits.
 use borrow.Author.Needs.{needs}
 use denote.Ref.{now}
 use Rattle.book.specs.Books.{ruleOr, ruleMeant, ruleOf}
-use Rattle.plan.proofs.Fits.{table-fits}
+use Rattle.plan.proofs.Fits.{rule-fits}
 use Rattle.plan.proofs.Planning.{rule-read, outlined}
 use Rattle.plan.proofs.outline_at.Statement.{statement}
 use Rattle.plan.proofs.outline_at.Tie as tie
@@ -11,7 +11,8 @@ outline-of-requires : tie.Need-outline-of-requires
 unfolding ruleMeant ruleOf
 outline-of-requires c κs =
     let s = now (c .before .before .before .before .before .args .s) in
-    table-fits _ s _ (rule-read s (c .before .before .before .rule-at .ensures) (c .before .rule .given .1))
+    let fits = rule-fits _ s _ (rule-read s (c .before .before .before .rule-at .ensures) (c .before .rule .given .1)) in
+    (fits .table, fits .triggers, fits .columns)
 
 returns : tie.Need-returns
 returns c =

@@ -1,4 +1,4 @@
--- `plan::outline_of` meets its contract: its two ends are the two cases of a rule's own table, and a table of at most 3 fits a byte.
+-- `plan::outline_of` meets its contract: its two ends are the two cases of a rule's own table, and what fits is a byte.
 use borrow.Author.Needs.{needs}
 use Rattle.book.specs.Books.{ruleOf, headRule}
 use Rattle.plan.specs.Plans.{ownTable}
@@ -14,4 +14,4 @@ unfolding ownTable headRule ruleOf
 returns-2 c = search needs
 
 pub outline-of-spec : {M : Type 1} → statement M
-outline-of-spec = tie.close (tie.spec (λ c. search needs) returns returns-2)
+outline-of-spec = tie.close (tie.spec (λ c. search needs) (λ c. search needs) (λ c. search needs) returns returns-2)

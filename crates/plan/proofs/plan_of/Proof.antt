@@ -6,10 +6,11 @@ use Rattle.plan.proofs.plan_of.Statement.{statement}
 use Rattle.plan.proofs.plan_of.Tie as tie
 
 abbrev Inv-loop : tie.InvT-loop
-Inv-loop s n starts₀ tables₀ masks₀ here₀ left₀ starts tables masks here left = Planning s n starts tables masks here left
+Inv-loop s n starts₀ tables₀ triggers₀ columns₀ masks₀ here₀ left₀ starts tables triggers columns masks here left =
+    Planning s n starts tables triggers columns masks here left
 
 abbrev μ-loop : tie.MeasureT-loop
-μ-loop s n starts₀ tables₀ masks₀ here₀ left₀ starts tables masks here left = left
+μ-loop s n starts₀ tables₀ triggers₀ columns₀ masks₀ here₀ left₀ starts tables triggers columns masks here left = left
 
 loop-holds : tie.Need-loop-holds Inv-loop μ-loop
 loop-holds c = nothing-planned (now (c .before .args .s)) _ (c .before .pre .0) (c .before .pre .1)
@@ -28,6 +29,8 @@ plan-of-spec =
     μ-loop
     loop-holds
     (λ c κs. omega arith)
+    (λ c. omega arith)
+    (λ c. omega arith)
     (λ c. omega arith)
     (λ c. omega arith)
     (λ c. omega arith)

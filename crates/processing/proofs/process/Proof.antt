@@ -7,12 +7,12 @@ use Rattle.processing.proofs.process.Statement.{statement}
 use Rattle.processing.proofs.process.Tie as tie
 
 run-log-requires : tie.Need-run-log-requires
-run-log-requires c κs = starts-running _ (c .before .before .before .before .before .pre .1 .1 .1)
+run-log-requires c κs = starts-running _ (c .before .before .before .before .pre .1 .1 .1)
 
 steps-requires : tie.Need-steps-requires
 steps-requires c κs =
     let ran = c .before .before .before .before .before in
-    let start = ran .before .before .before .before .before .before in
+    let start = ran .before .before .before .before .before in
     let a = start .args in
     let pre = start .pre in
     let midway =

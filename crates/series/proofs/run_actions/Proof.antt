@@ -15,11 +15,11 @@ use Rattle.series.proofs.run_actions.Statement.{statement}
 use Rattle.series.proofs.run_actions.Tie as tie
 
 abbrev Inv-loop : tie.InvT-loop
-Inv-loop room₀ tables book triggers left₀ here₀ room left here =
-    Left (action triggers) (runActions (transitionIn room₀)) book room₀ room tables left₀ here₀ left here
+Inv-loop room₀ book triggers left₀ here₀ room left here =
+    Left (action triggers) (runActions (transitionIn room₀)) book room₀ room left₀ here₀ left here
 
 abbrev μ-loop : tie.MeasureT-loop
-μ-loop room₀ tables book triggers left₀ here₀ room left here = left
+μ-loop room₀ book triggers left₀ here₀ room left here = left
 
 loop-holds : tie.Need-loop-holds Inv-loop μ-loop
 loop-holds c = left-start (action _) (runActions _) _ _ _ (c .before .before .pre)

@@ -12,10 +12,10 @@ use Rattle.series.proofs.run_log.Statement.{statement}
 use Rattle.series.proofs.run_log.Tie as tie
 
 abbrev Inv-loop : tie.InvT-loop
-Inv-loop room₀ tables log count left₀ here₀ room left here = Left operation runLog log room₀ room tables count 7 left here
+Inv-loop room₀ log count left₀ here₀ room left here = Left operation runLog log room₀ room count 7 left here
 
 abbrev μ-loop : tie.MeasureT-loop
-μ-loop room₀ tables log count left₀ here₀ room left here = left
+μ-loop room₀ log count left₀ here₀ room left here = left
 
 loop-holds : tie.Need-loop-holds Inv-loop μ-loop
 loop-holds c = left-start operation runLog _ _ 7 (c .before .before .pre)

@@ -16,7 +16,8 @@ abbrev μ-loop : tie.MeasureT-loop
 loop-holds : tie.Need-loop-holds Inv-loop μ-loop
 loop-holds c =
     let start = c .before .before .before .before in
-    let long : length (start .args .plan .order .rules) ≡ 16 = search needs in
+    let order = start .good .1 .1 .0 .1 .1 .1 .1 .1 .1 .1 .0 in
+    let long : length (start .args .plan .order .rules) ≡ 16 = search (needs, order) in
     walk-start _ _ _ (omega (arith, long, start .pre))
 
 is-triggered-requires : tie.Need-is-triggered-requires Inv-loop μ-loop

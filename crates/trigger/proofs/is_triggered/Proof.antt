@@ -1,7 +1,7 @@
--- `trigger::is_triggered` meets its contract: an inactive rule is not triggered; the head of an active one is read, and says what wakes it.
+-- `trigger::is_triggered` meets its contract: an inactive rule is not triggered; of an active one the plan says what wakes it.
 use borrow.Author.Needs.{needs}
 use native.Mathlib.Omega.{arith}
-use Rattle.trigger.proofs.Woken.{not-active, can-read, read-and-woken}
+use Rattle.trigger.proofs.Woken.{not-active, active-woken}
 use Rattle.trigger.proofs.is_triggered.Statement.{statement}
 use Rattle.trigger.proofs.is_triggered.Tie as tie
 
@@ -12,19 +12,15 @@ returns c =
 
 returns-2 : tie.Need-returns-2
 returns-2 c =
-    let looked = c .before in
-    let stood = looked .before .before in
-    let read = stood .before .before in
-    let on = read .before .before in
+    let columns = c .before in
+    let triggers = columns .before in
+    let table = triggers .before in
+    let on = table .before .before .before in
     let start = on .before .before .before .before in
-    read-and-woken _ _ (start .pre .1 .1 .placed _ (start .pre .1 .0 .1)) _ (omega (arith, start .pre .1 .0)) (on .if1 .left)
-    (read .head-at .ensures .0) (stood .head .given .1) (looked .watch .ensures) (c .triggered .ensures)
-
-returns-3 : tie.Need-returns-3
-returns-3 c =
-    let read = c .before .before in
-    let start = read .before .before .before .before .before .before in
-    absurd (can-read (start .pre .1 .1 .placed _ (start .pre .1 .0 .1)) (read .head-at .ensures .0) (c .enum-told .given .1))
+    let plan = start .pre .1 .1 in
+    let below = start .pre .1 .0 .1 in
+    active-woken _ _ (plan .placed _ below) (plan .watched _ below) (omega (arith, start .pre .1 .0)) (on .if1 .left) _
+    (table .wide .ensures .0) (triggers .wide2 .ensures .0) (columns .wide3 .ensures .0) (c .triggered .ensures)
 
 pub is-triggered-spec : {M : Type 1} → statement M
 is-triggered-spec =
@@ -33,11 +29,10 @@ is-triggered-spec =
     (λ c. search needs)
     returns
     (λ c. search needs)
-    (λ c. search needs)
     (λ c κs. search needs)
     (λ c. search needs)
     (λ c κs. search needs)
-    (λ c κs. search needs)
     (λ c. search needs)
-    returns-2
-    returns-3)
+    (λ c κs. search needs)
+    (λ c κs. search needs)
+    returns-2)

@@ -1,12 +1,12 @@
--- `effects::join_table` meets its contract: the handle is at its place and its slot is joined, or the operation is inserted there.
+-- `effects::join` meets its contract: the handle is at its place and its slot is joined, or the operation is inserted there.
 use native.Mathlib.Omega.{arith}
 use borrow.Author.Needs.{needs}
 use Rattle.slots.specs.Slots.{tableAt}
 use Rattle.slots.proofs.Tables.{table-length}
 use Rattle.slots.proofs.Order.{place-within}
 use Rattle.effects.proofs.Joining.{free-slot, joined-insert}
-use Rattle.effects.proofs.join_table.Statement.{statement}
-use Rattle.effects.proofs.join_table.Tie as tie
+use Rattle.effects.proofs.join.Statement.{statement}
+use Rattle.effects.proofs.join.Tie as tie
 
 stays-requires : tie.Need-stays-requires
 stays-requires c κs =
@@ -36,10 +36,10 @@ insert-at-requires c κs =
     let placed = asked .before .before in
     let start = placed .before .before .before .before .before .before in
     let a = start .args in
-    let free = free-slot (a .room .now) (a .base) _ (a .op) (placed .place-near .ensures)
+    let free = free-slot (a .room .now) 60000 _ (a .op) (placed .place-near .ensures)
     (rw (← asked .is-at .ensures) (test .if2 .left)) (start .pre .1) in
-    let low = place-within (a .op .handle) (tableAt (a .room .now) (a .base)) in
-    let len = table-length (a .room .now) (a .base) in
+    let low = place-within (a .op .handle) (tableAt (a .room .now) 60000) in
+    let len = table-length (a .room .now) 60000 in
     (start .pre .0, (free, (omega arith, omega (arith, placed .place-near .ensures, low, len))))
 
 returns-3 : tie.Need-returns-3
@@ -50,11 +50,11 @@ returns-3 c =
     let placed = asked .before .before in
     let start = placed .before .before .before .before .before .before in
     let a = start .args in
-    joined-insert (a .room .now) (a .base) _ (a .op) (placed .place-near .ensures) (rw (← asked .is-at .ensures) (test .if2 .left))
+    joined-insert (a .room .now) 60000 _ (a .op) (placed .place-near .ensures) (rw (← asked .is-at .ensures) (test .if2 .left))
     (put .insert-at .ensures)
 
-pub join-table-spec : {M : Type 1} → statement M
-join-table-spec =
+pub join-spec : {M : Type 1} → statement M
+join-spec =
     tie.close
     (tie.spec stays-requires (λ c. returns c .frame .len) returns place-near-requires (λ c κs. search needs) join-at-requires
     (λ c. c .before .before .join-at .ensures .frame .len) (λ c. c .before .before .join-at .ensures)
