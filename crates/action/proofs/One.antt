@@ -15,7 +15,7 @@ use Rattle.meaning.proofs.Lookups.{found-so}
 use Rattle.meaning.proofs.Made.{Proper}
 use Rattle.meaning.proofs.Images.{rising-proper}
 use Rattle.meaning.proofs.ActionsFit.{updatedRow-only}
-use Rattle.words.specs.Words.{Bytes, word32At}
+use Rattle.words.specs.Words.{Bytes, low32At}
 use Rattle.slots.specs.declared.Slot.{Slot}
 use Rattle.slots.specs.declared.Found.{Found}
 use Rattle.slots.specs.declared.Found.the-variants.{At, Nothing}
@@ -48,7 +48,7 @@ module _ {xs : List ℕ} (run : Running xs) (h : ℕ) where
   is-missing : findIn h (tableAt xs LIVE) ≡ Nothing → rowAt h (liveRows xs) ≡ none
   is-missing f = ap (rowAt h) (run .represents .rows) ∙ missing-row (run .reached) (run .represents) h f
 
-  pub found-within : {i : ℕ} → findIn h (tableAt xs LIVE) ≡ At i → i < word32At xs LIVE
+  pub found-within : {i : ℕ} → findIn h (tableAt xs LIVE) ≡ At i → i < low32At xs LIVE
   found-within f = omega (arith, find-at h (tableAt xs LIVE) f .0, table-length xs LIVE)
 
   -- ---- Delete

@@ -16,8 +16,8 @@ use Rattle.meaning.specs.Processing.{State}
 use Rattle.meaning.specs.Processing.Actions.{Result, went, newRows, insertAll}
 use Rattle.meaning.specs.Processing.Actions as Actions
 use Rattle.meaning.proofs.Made.{Proper}
-use Rattle.words.specs.Words.{Bytes, word32At}
-use Rattle.words.proofs.Laws.{word32-lt}
+use Rattle.words.specs.Words.{Bytes, low32At}
+use Rattle.words.proofs.Laws.{low32-lt}
 use Rattle.slots.specs.declared.Slot.{Slot}
 use Rattle.slots.specs.Slots.{tableAt, tableBytes, blank}
 use Rattle.slots.proofs.Tables.{table-length, table-fits}
@@ -41,7 +41,7 @@ unfoldable valuesOf : List Slot → List (List ℤ)
 valuesOf l = map (λ e. rowMeant e .values) l
 
 unfoldable pub insertions : List ℕ → ℕ → List RowOperation
-insertions xs table = map inserts (newRows table (word32At xs NEXT) (valuesIn xs))
+insertions xs table = map inserts (newRows table (low32At xs NEXT) (valuesIn xs))
 
 nothing : RowOperation
 nothing = deletes (record { handle = 0; table = 0; values = [] })
@@ -60,15 +60,15 @@ new-length t h (e ∷ l) = ap suc (new-length t (suc h) l)
 
 module _ (xs : List ℕ) (table : ℕ) where
   insertion-at : (i : ℕ) → i < length (tableAt xs WORKED)
-      → getD (insertions xs table) i nothing ≡ inserts (rowMeant (rowOf (word32At xs NEXT + i) table (getD (tableAt xs WORKED) i blank)))
+      → getD (insertions xs table) i nothing ≡ inserts (rowMeant (rowOf (low32At xs NEXT + i) table (getD (tableAt xs WORKED) i blank)))
   unfolding insertions valuesIn valuesOf
-  insertion-at i b = new-at table (word32At xs NEXT) i (tableAt xs WORKED) b
+  insertion-at i b = new-at table (low32At xs NEXT) i (tableAt xs WORKED) b
 
   insertions-length : length (insertions xs table) ≡ length (tableAt xs WORKED)
   unfolding insertions valuesIn valuesOf
-  insertions-length = new-length table (word32At xs NEXT) (tableAt xs WORKED)
+  insertions-length = new-length table (low32At xs NEXT) (tableAt xs WORKED)
 
-values-length : (xs : List ℕ) → length (valuesIn xs) ≡ word32At xs WORKED
+values-length : (xs : List ℕ) → length (valuesIn xs) ≡ low32At xs WORKED
 unfolding valuesIn
 values-length xs = length-map (tableAt xs WORKED) (λ e. rowMeant e .values) ∙ table-length xs WORKED
 
@@ -93,8 +93,8 @@ insertAll-by t vss m = go (ltb mostRows (length (m .rows) + length vss)) (ltb la
     go false true = refl
     go false false = refl
 
-insertAll-space : {xs tables : List ℕ} {s : State} (table n : ℕ) → n ≡ word32At xs WORKED → Represents xs tables s
-    → insertAll table (valuesIn xs) (s .image) ≡ resultOf (spaceFor (length (tableAt xs LIVE)) (word32At xs NEXT) n) (insertions xs table)
+insertAll-space : {xs tables : List ℕ} {s : State} (table n : ℕ) → n ≡ low32At xs WORKED → Represents xs tables s
+    → insertAll table (valuesIn xs) (s .image) ≡ resultOf (spaceFor (length (tableAt xs LIVE)) (low32At xs NEXT) n) (insertions xs table)
 unfolding insertions
 insertAll-space {xs} {tables} {s} table n sized p =
     let len : length (valuesIn xs) ≡ n = values-length xs ∙ sym sized in
@@ -103,7 +103,7 @@ insertAll-space {xs} {tables} {s} table n sized p =
 -- ---- One insert
 
 module _ {xs : List ℕ} (table : ℕ) (e : Slot) (proper : Proper (rowMeant (insertedSlot xs table e)))
-    (room : length (tableAt xs LIVE) < ROWS) (left : word32At xs NEXT < lastHandle) where
+    (room : length (tableAt xs LIVE) < ROWS) (left : low32At xs NEXT < lastHandle) where
   insert-joinable : Running xs → Joinable xs (asEffect 1 0 (insertedSlot xs table e))
   unfolding insertedSlot rowOf
   insert-joinable run =
@@ -127,7 +127,7 @@ inserted-proper xs bytes table t base i =
     let f = table-fits xs bytes base i in
     proper-slot
     (record {
-      handle = word32-lt xs bytes NEXT;
+      handle = low32-lt xs bytes NEXT;
       kind = omega arith;
       mask = omega arith;
       table = omega arith;
@@ -144,14 +144,14 @@ pub record Inserting (xs zs : List ℕ) (table n left : ℕ) : Type 0 where
   pub few : left ≤ n
   pub moves : Moves xs zs (take (n - left) (insertions xs table))
   pub live : length (tableAt zs LIVE) ≡ length (tableAt xs LIVE) + (n - left)
-  pub next : word32At zs NEXT ≡ word32At xs NEXT + (n - left)
+  pub next : low32At zs NEXT ≡ low32At xs NEXT + (n - left)
 
 -- there is space for all
 record Roomy (xs : List ℕ) (n : ℕ) : Type 0 where
   live : length (tableAt xs LIVE) + n ≤ mostRows
-  next : word32At xs NEXT + n ≤ lastHandle
+  next : low32At xs NEXT + n ≤ lastHandle
 
-space-roomy : (xs : List ℕ) (n : ℕ) → spaceFor (length (tableAt xs LIVE)) (word32At xs NEXT) n ≡ Enough → Roomy xs n
+space-roomy : (xs : List ℕ) (n : ℕ) → spaceFor (length (tableAt xs LIVE)) (low32At xs NEXT) n ≡ Enough → Roomy xs n
 unfolding spaceFor
 space-roomy xs n e = go (ltb mostRows live) refl (ltb lastHandle next) refl e
   where
@@ -159,7 +159,7 @@ space-roomy xs n e = go (ltb mostRows live) refl (ltb lastHandle next) refl e
     live = length (tableAt xs LIVE) + n
 
     next : ℕ
-    next = word32At xs NEXT + n
+    next = low32At xs NEXT + n
 
     go : (a : Bool) → ltb mostRows live ≡ a → (b : Bool) → ltb lastHandle next ≡ b
         → (if a then Full else if b then UsedUp else Enough) ≡ Enough → Roomy xs n
@@ -173,7 +173,7 @@ inserting-start xs table n =
     record { few = omega arith; moves = rw z moves-none; live = omega arith; next = omega arith }
 
 module _ {xs zs : List ℕ} {table n left : ℕ} (run : Running xs) (t : table ≤ 3)
-    (sized : n ≡ word32At xs WORKED) (space : spaceFor (length (tableAt xs LIVE)) (word32At xs NEXT) n ≡ Enough)
+    (sized : n ≡ low32At xs WORKED) (space : spaceFor (length (tableAt xs LIVE)) (low32At xs NEXT) n ≡ Enough)
     (inv : Inserting xs zs table n left) where
   pub inserting-running : Running zs
   inserting-running = moves-running run (inv .moves)
@@ -182,7 +182,7 @@ module _ {xs zs : List ℕ} {table n left : ℕ} (run : Running xs) (t : table �
   unfolding tableBytes
   worked-same = table-kept (inv .moves .between) WORKED ROWS (run .represents .laid .worked) (omega arith) (omega arith)
 
-  pub inserting-within : 0 < left → n - left < word32At zs WORKED
+  pub inserting-within : 0 < left → n - left < low32At zs WORKED
   inserting-within b =
       omega (arith, inv .few, table-length zs WORKED, table-length xs WORKED, ap length worked-same)
 
@@ -196,7 +196,7 @@ module _ {xs zs : List ℕ} {table n left : ℕ} (run : Running xs) (t : table �
     pub inserting-room : length (tableAt zs LIVE) < ROWS
     inserting-room = let r = space-roomy xs n space in omega (arith, inv .few, inv .live, r .live)
 
-    pub inserting-handles : word32At zs NEXT < lastHandle
+    pub inserting-handles : low32At zs NEXT < lastHandle
     inserting-handles = let r = space-roomy xs n space in omega (arith, inv .few, inv .next, r .next)
 
     pub inserting-joinable : Joinable zs (asEffect 1 0 (insertedSlot zs k e))
@@ -233,8 +233,8 @@ module _ {xs zs : List ℕ} {table n left : ℕ} (run : Running xs) (t : table �
 
 -- ---- No space
 
-module _ {xs : List ℕ} (table n : ℕ) (run : Running xs) (sized : n ≡ word32At xs WORKED) where
-  pub full-acts : spaceFor (length (tableAt xs LIVE)) (word32At xs NEXT) n ≡ Full
+module _ {xs : List ℕ} (table n : ℕ) (run : Running xs) (sized : n ≡ low32At xs WORKED) where
+  pub full-acts : spaceFor (length (tableAt xs LIVE)) (low32At xs NEXT) n ≡ Full
       → Acts xs xs (insertAll table (valuesIn xs)) (Failed reason.Full)
   unfolding resultOf Actions.fails
   full-acts e =
@@ -245,7 +245,7 @@ module _ {xs : List ℕ} (table n : ℕ) (run : Running xs) (sized : n ≡ word3
         follows = λ tables start s r p. rw (insertAll-space table n sized p, e) (fails {r = reason.Full} {os = []} (rw (madeAll-none s) p));
       }
 
-  pub used-up-acts : spaceFor (length (tableAt xs LIVE)) (word32At xs NEXT) n ≡ UsedUp
+  pub used-up-acts : spaceFor (length (tableAt xs LIVE)) (low32At xs NEXT) n ≡ UsedUp
       → Acts xs xs (insertAll table (valuesIn xs)) (Failed reason.HandlesUsedUp)
   unfolding resultOf Actions.fails
   used-up-acts e =

@@ -18,7 +18,7 @@ use Rattle.meaning.specs.Trace.{OnlyIn}
 use Rattle.meaning.proofs.Made.{Proper, more, Made as MadeFrom}
 use Rattle.meaning.proofs.Lookups.{rowAt-other}
 use Rattle.meaning.proofs.ActionsFit.{Taken, oneTaken, taken-in, updatedRow-only}
-use Rattle.words.specs.Words.{Bytes, word32At}
+use Rattle.words.specs.Words.{Bytes, low32At}
 use Rattle.slots.specs.declared.Slot.{Slot}
 use Rattle.slots.specs.Slots.{tableAt, tableBytes, blank, findIn, removeAt}
 use Rattle.slots.proofs.Tables.{table-length, table-fits}
@@ -70,12 +70,12 @@ taken-after {xs} {ys} {rs} o run m c = go (l .made)
 -- ---- One delete and one update
 
 made-delete : {xs ys : List ℕ} (i : ℕ) (a : Looked) → Deleted xs ys (At i) a
-    → Turned xs ys (removeAt i (tableAt xs LIVE)) (word32At xs NEXT) (operationAt xs 2 0 i)
+    → Turned xs ys (removeAt i (tableAt xs LIVE)) (low32At xs NEXT) (operationAt xs 2 0 i)
 made-delete i Made t = t
 made-delete i NoSuchRow t = absurd t
 
 made-update : {xs ys : List ℕ} (mask : ℕ) (new : Slot) (i : ℕ) (a : Looked) → Updated xs ys mask new (At i) a
-    → Turned xs ys (set (tableAt xs LIVE) i new) (word32At xs NEXT) (operationAt xs 3 mask i)
+    → Turned xs ys (set (tableAt xs LIVE) i new) (low32At xs NEXT) (operationAt xs 3 mask i)
 made-update mask new i Made t = t
 made-update mask new i NoSuchRow t = absurd t
 
@@ -157,14 +157,14 @@ module _ {xs zs : List ℕ} {os : List RowOperation} {i : ℕ} (run : Running xs
   unfolding tableBytes
   worked-same = table-kept (inv .moves .between) WORKED ROWS (run .represents .laid .worked) (omega arith) (omega arith)
 
-  taking-first : i < word32At xs CHOSEN → First (liveRows zs) (chosenAt xs i) (drop (suc i) (rowsMeant (tableAt xs CHOSEN)))
+  taking-first : i < low32At xs CHOSEN → First (liveRows zs) (chosenAt xs i) (drop (suc i) (rowsMeant (tableAt xs CHOSEN)))
   unfolding chosenAt
   taking-first b =
       let l = tableAt xs CHOSEN in
       let h : i < length (rowsMeant l) = omega (arith, rows-length l, table-length xs CHOSEN) in
       first (rw (drop-cons (rowsMeant l) i (rowMeant blank) h, rows-at i l) at (inv .taken))
 
-  taking-next : {ws : List ℕ} (d o : RowOperation) → i < word32At xs CHOSEN → length os ≡ word32At xs CHOSEN → getD os i d ≡ o
+  taking-next : {ws : List ℕ} (d o : RowOperation) → i < low32At xs CHOSEN → length os ≡ low32At xs CHOSEN → getD os i d ≡ o
       → handleOf o ≡ chosenAt xs i .handle → Moves zs ws (o ∷ []) → Taking xs ws os (suc i)
   taking-next d o b len is same m =
       let h : i < length os = omega arith in
@@ -174,7 +174,7 @@ module _ {xs zs : List ℕ} {os : List RowOperation} {i : ℕ} (run : Running xs
         taken = taken-after o taking-running m (rw same (taking-first b .rest));
       }
 
-  taking-all : word32At xs CHOSEN ≤ i → length os ≡ word32At xs CHOSEN → Moves xs zs os
+  taking-all : low32At xs CHOSEN ≤ i → length os ≡ low32At xs CHOSEN → Moves xs zs os
   taking-all all len = rw (take-all i os (omega arith)) at (inv .moves)
 
 -- ---- Deletes
@@ -191,14 +191,14 @@ deletes-at i [] = refl
 deletes-at zero (e ∷ l) = refl
 deletes-at (suc i) (e ∷ l) = deletes-at i l
 
-deletions-length : (xs : List ℕ) → length (deletions xs) ≡ word32At xs CHOSEN
+deletions-length : (xs : List ℕ) → length (deletions xs) ≡ low32At xs CHOSEN
 unfolding deletions
 deletions-length xs =
     length-map (rowsMeant (tableAt xs CHOSEN)) deletes ∙ rows-length (tableAt xs CHOSEN) ∙ table-length xs CHOSEN
 
-module _ {xs zs : List ℕ} {n i : ℕ} (run : Running xs) (sized : n ≡ word32At xs CHOSEN)
+module _ {xs zs : List ℕ} {n i : ℕ} (run : Running xs) (sized : n ≡ low32At xs CHOSEN)
     (inv : Taking xs zs (deletions xs) i) where
-  pub deleting-within : i < n → i < word32At zs CHOSEN
+  pub deleting-within : i < n → i < low32At zs CHOSEN
   deleting-within b = omega (arith, table-length zs CHOSEN, table-length xs CHOSEN, ap length (chosen-same run inv))
 
   module _ (within : i < n) {e : Slot} (read : e ≡ getD (tableAt zs CHOSEN) i blank) where
@@ -280,10 +280,10 @@ module _ {xs : List ℕ} {mask : ℕ} (w : Rewritten xs mask) where
       sym (rows-length (tableAt xs WORKED)) ∙ ap length (w .rows) ∙ with-length mask (rowsMeant (tableAt xs CHOSEN)) (w .values) q
       ∙ rows-length (tableAt xs CHOSEN)
 
-  sized-chosen : {n : ℕ} → n ≡ word32At xs WORKED → n ≡ word32At xs CHOSEN
+  sized-chosen : {n : ℕ} → n ≡ low32At xs WORKED → n ≡ low32At xs CHOSEN
   sized-chosen q = q ∙ sym (table-length xs WORKED) ∙ as-many ∙ table-length xs CHOSEN
 
-  rewrites-length : length (rewrites xs mask) ≡ word32At xs CHOSEN
+  rewrites-length : length (rewrites xs mask) ≡ low32At xs CHOSEN
   unfolding rewrites
   rewrites-length = updates-length mask (tableAt xs CHOSEN) (tableAt xs WORKED) as-many ∙ table-length xs CHOSEN
 
@@ -308,20 +308,20 @@ updating-start {xs} mask n c =
     record { few = omega arith; taking = rw z (taking-start (rewrites xs mask) c) }
 
 module _ {xs zs : List ℕ} {mask n left : ℕ} (run : Running xs) (small : mask ≤ 15) (w : Rewritten xs mask)
-    (sizedWorked : n ≡ word32At xs WORKED) (inv : Updating xs zs mask n left) where
-  sized : n ≡ word32At xs CHOSEN
+    (sizedWorked : n ≡ low32At xs WORKED) (inv : Updating xs zs mask n left) where
+  sized : n ≡ low32At xs CHOSEN
   sized = sized-chosen w sizedWorked
 
   pub updating-running : Running zs
   updating-running = taking-running run (inv .taking)
 
-  pub updating-within : 0 < left → n - left < word32At zs WORKED
+  pub updating-within : 0 < left → n - left < low32At zs WORKED
   updating-within b =
       omega (arith, inv .few, table-length zs WORKED, table-length xs WORKED, ap length (worked-same run (inv .taking)))
 
   module _ (some : 0 < left) {e : Slot} {k : ℕ} (read : e ≡ getD (tableAt zs WORKED) (n - left) blank)
       (narrowed : mask ≤ 255 → k ≡ mask) where
-    within : n - left < word32At xs CHOSEN
+    within : n - left < low32At xs CHOSEN
     within = omega (arith, inv .few, sized)
 
     old : First (liveRows zs) (chosenAt xs (n - left)) (drop (suc (n - left)) (rowsMeant (tableAt xs CHOSEN)))

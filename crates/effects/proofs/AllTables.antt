@@ -9,7 +9,7 @@ use native.Mathlib.Omega.{arith}
 use borrow.Author.Tests.{ltb-true, ltb-false}
 use lib.Dec.{ltb}
 use lib.ListN.{length, getD}
-use Rattle.words.specs.Words.{word32At}
+use Rattle.words.specs.Words.{low32At}
 use Rattle.words.proofs.Laws.{split}
 use Rattle.slots.specs.declared.Slot.{Slot}
 use Rattle.slots.specs.Slots.{slotsFrom, tableAt, tableBytes, Frame, Stands, Holds}
@@ -194,7 +194,7 @@ module _ {xs x x1 x2 ys tables : List ℕ} (ready : Settleable xs tables) (s : W
       }
 
 -- where nothing was done, nothing has to join
-pub settled-none : {xs tables : List ℕ} → Settleable xs tables → word32At xs STRETCH ≡ 0 → AllSettled xs xs tables
+pub settled-none : {xs tables : List ℕ} → Settleable xs tables → low32At xs STRETCH ≡ 0 → AllSettled xs xs tables
 unfolding settledFor joinStretch tableAt slotsFrom
 settled-none {xs} {tables} ready q =
     let none : tableAt xs STRETCH ≡ [] = rw q in

@@ -12,7 +12,7 @@ use lib.ListN.{length, getD, take, drop, set}
 use lib.Seq.{drop-cons, set-split, set-getD}
 use Rattle.meaning.specs.Base.{if_then_else_}
 use Rattle.meaning.specs.RowOperations.{joinKind, joinTable}
-use Rattle.words.specs.Words.{word32At}
+use Rattle.words.specs.Words.{low32At}
 use Rattle.slots.specs.declared.Slot.{Slot}
 use Rattle.slots.specs.Slots.{tableAt, insertAt, removeAt, placeIn, hit, blank, Stands, Holds, Sorted}
 use Rattle.slots.proofs.Frames.{frame-refl}
@@ -131,7 +131,7 @@ joined-handle e op q =
 
 module _ (xs : List ℕ) (base i : ℕ) (op : Slot) (at : i ≡ placeIn (op .handle) (tableAt xs base)) where
   -- a table that takes an operation on another handle has a slot free
-  pub free-slot : hit (op .handle) i (tableAt xs base) ≡ false → Takes op (tableAt xs base) → word32At xs base < 128
+  pub free-slot : hit (op .handle) i (tableAt xs base) ≡ false → Takes op (tableAt xs base) → low32At xs base < 128
   free-slot q t =
       omega (
         arith,

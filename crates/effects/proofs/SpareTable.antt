@@ -10,7 +10,7 @@ use borrow.Author.Tests.{eq-eqb, ne-eqb}
 use lib.ListN.{length, getD, take, drop, length-append, length-drop}
 use lib.Seq.{slice, slice-empty, length-slice, take-suc, take-all, drop-append-le, length-take-le}
 use Rattle.meaning.specs.RowOperations.{joinKind}
-use Rattle.words.specs.Words.{word32At}
+use Rattle.words.specs.Words.{low32At}
 use Rattle.slots.specs.declared.Slot.{Slot}
 use Rattle.slots.specs.Slots.{slotAt, tableAt, tableBytes, placeIn, hit, blank, Frame, Stands, Holds}
 use Rattle.slots.proofs.Frames.{frame-refl, frame-trans, word-kept-above}
@@ -71,18 +71,18 @@ bring-start {x} base from to l h =
           };
     }
 
-module _ {x0 x : List ℕ} {base from to i : ℕ} (l : Loom x0 base) (fits : to ≤ word32At x0 base) (b : Brought x0 x base from to i) where
-  brought-size : word32At x SPARE ≡ word32At x0 SPARE + (i - from)
+module _ {x0 x : List ℕ} {base from to i : ℕ} (l : Loom x0 base) (fits : to ≤ low32At x0 base) (b : Brought x0 x base from to i) where
+  brought-size : low32At x SPARE ≡ low32At x0 SPARE + (i - from)
   brought-size =
       holds-size SPARE 128 (b .holds)
       ∙ length-append (tableAt x0 SPARE) (slice from i (tableAt x0 base))
       ∙ rw (table-length x0 SPARE, length-slice from i (tableAt x0 base) (omega (arith, b .high, table-length x0 base)))
 
-  pub bring-pushes : word32At x0 SPARE + (to - from) ≤ 128 → i < to
-      → Stands SPARE 128 x × ((word32At x SPARE < 128) × ((128 < 4294967296) × (Stands base 128 x × (i < word32At x base))))
+  pub bring-pushes : low32At x0 SPARE + (to - from) ≤ 128 → i < to
+      → Stands SPARE 128 x × ((low32At x SPARE < 128) × ((128 < 4294967296) × (Stands base 128 x × (i < low32At x base))))
   bring-pushes h t =
-      let free : word32At x SPARE < 128 = omega (arith, brought-size, b .low) in
-      let reads : i < word32At x base = rw (word-kept-above (b .holds .frame) base (l .apart)) (omega arith) in
+      let free : low32At x SPARE < 128 = omega (arith, brought-size, b .low) in
+      let reads : i < low32At x base = rw (word-kept-above (b .holds .frame) base (l .apart)) (omega arith) in
       (b .holds .stands, (free, (omega arith, (loom-kept (b .holds .frame) l (b .holds .stands) .waits, reads))))
 
   pub bring-step : {y : List ℕ} → i < to → Holds SPARE 128 x y (tableAt x SPARE ++ (getD (tableAt x base) i blank ∷ []))
@@ -111,7 +111,7 @@ module _ {x0 x : List ℕ} {base from to i : ℕ} (l : Loom x0 base) (fits : to 
 
 -- ---- Two slots as one
 
-pub kind-small : (xs : List ℕ) (base i : ℕ) → i < word32At xs base → getD (tableAt xs base) i blank .kind < 256
+pub kind-small : (xs : List ℕ) (base i : ℕ) → i < low32At xs base → getD (tableAt xs base) i blank .kind < 256
 unfolding slotAt
 kind-small xs base i h = rw (table-get xs base i h) (omega arith)
 
@@ -144,7 +144,7 @@ module _ (x : List ℕ) (base i j : ℕ) where
     unfolding keptSlot
     one-left n = rw (← joined-is, ne-eqb (joint .kind) 0 n)
 
-    pub joined-free : length (tableAt x SPARE ++ joinedAt x base i j) ≤ 128 → (joint .kind ≡ 0 → ⊥) → word32At x SPARE < 128
+    pub joined-free : length (tableAt x SPARE ++ joinedAt x base i j) ≤ 128 → (joint .kind ≡ 0 → ⊥) → low32At x SPARE < 128
     joined-free fits n =
         omega (
           arith,
@@ -180,13 +180,13 @@ module _ {x : List ℕ} {base from j handle : ℕ} (o : Weavable x base from j) 
     at = rw (← read) found
 
     -- what waits before the place can be brought
-    pub one-brings : Loom x base × ((from ≤ i) × ((i ≤ word32At x base) × (word32At x SPARE + (i - from) ≤ 128)))
+    pub one-brings : Loom x base × ((from ≤ i) × ((i ≤ low32At x base) × (low32At x SPARE + (i - from) ≤ 128)))
     one-brings =
         let low : from ≤ i = rw found one-low in
-        let high : i ≤ word32At x base = omega (arith, place-within handle A, table-length x base) in
+        let high : i ≤ low32At x base = omega (arith, place-within handle A, table-length x base) in
         let front : rest t A S from j ≡ slice from i A ++ rest t A S i j =
         rest-front t from (passed-place (o .passed) in-stretch i at) low in
-        let free : word32At x SPARE + (i - from) ≤ 128 =
+        let free : low32At x SPARE + (i - from) ≤ 128 =
         omega (
           arith,
           o .fits,
@@ -208,7 +208,7 @@ module _ {x : List ℕ} {base from j handle : ℕ} (o : Weavable x base from j) 
       pub one-loom : Loom x1 base
       one-loom = loom-kept (b .frame) (o .loom) (b .stands)
 
-      reads : j < word32At x1 STRETCH
+      reads : j < low32At x1 STRETCH
       reads = omega (arith, ap length same-stretch, table-length x1 STRETCH, in-stretch)
 
       -- a slot of the handle joins it
@@ -220,9 +220,9 @@ module _ {x : List ℕ} {base from j handle : ℕ} (o : Weavable x base from j) 
         hit-list = rw (b .list, same-waits, same-stretch) (woven-hit (o .passed) in-stretch i at t refl (tableAt x SPARE) hit-waits)
 
         pub one-joins : Loom x1 base
-            × ((i < word32At x1 base) × ((j < word32At x1 STRETCH) × (length (tableAt x1 SPARE ++ joinedAt x1 base i j) ≤ 128)))
+            × ((i < low32At x1 base) × ((j < low32At x1 STRETCH) × (length (tableAt x1 SPARE ++ joinedAt x1 base i j) ≤ 128)))
         one-joins =
-            let within : i < word32At x1 base = omega (arith, hit-true handle i (tableAt x1 base) e .0, table-length x1 base) in
+            let within : i < low32At x1 base = omega (arith, hit-true handle i (tableAt x1 base) e .0, table-length x1 base) in
             let fits : length (tableAt x1 SPARE ++ joinedAt x1 base i j) ≤ 128 =
             omega (
               arith,
@@ -248,9 +248,9 @@ module _ {x : List ℕ} {base from j handle : ℕ} (o : Weavable x base from j) 
             rw (b .list, same-stretch) (woven-new (o .passed) in-stretch i at t refl (tableAt x SPARE) (rw (← same-waits, ← read) e))
 
         pub one-pushes : Stands SPARE 128 x1
-            × ((word32At x1 SPARE < 128) × ((128 < 4294967296) × (Stands STRETCH 128 x1 × (j < word32At x1 STRETCH))))
+            × ((low32At x1 SPARE < 128) × ((128 < 4294967296) × (Stands STRETCH 128 x1 × (j < low32At x1 STRETCH))))
         one-pushes =
-            let free : word32At x1 SPARE < 128 =
+            let free : low32At x1 SPARE < 128 =
             omega (
               arith,
               o .fits,
@@ -323,10 +323,10 @@ module _ {x1 x : List ℕ} {base t first after i j : ℕ} (l : Loom x1 base) (w 
   pub weaving-loom : Loom x base
   weaving-loom = loom-kept (w .frame) l (w .stands)
 
-  pub weaving-reads : {m : ℕ} → m ≡ word32At x1 STRETCH → j < m → j < word32At x STRETCH
+  pub weaving-reads : {m : ℕ} → m ≡ low32At x1 STRETCH → j < m → j < low32At x STRETCH
   weaving-reads q h = omega (arith, ap length stretch-then, table-length x STRETCH, table-length x1 STRETCH)
 
-  pub weaving-next : length (rest t (tableAt x1 base) (tableAt x1 STRETCH) first after) ≤ 128 → j < word32At x STRETCH → tableIn x j ≡ t
+  pub weaving-next : length (rest t (tableAt x1 base) (tableAt x1 STRETCH) first after) ≤ 128 → j < low32At x STRETCH → tableIn x j ≡ t
       → Weavable x base i j
   weaving-next fits reads own =
       record {
@@ -345,7 +345,7 @@ module _ {x1 x : List ℕ} {base t first after i j : ℕ} (l : Loom x1 base) (w 
         list = rw (own, waits-then, stretch-then) at (q .list) ∙ w .list;
       }
 
-  pub weave-other : j < word32At x STRETCH → (tableIn x j ≡ t → ⊥) → Weaving x1 x base t first after i (j + 1)
+  pub weave-other : j < low32At x STRETCH → (tableIn x j ≡ t → ⊥) → Weaving x1 x base t first after i (j + 1)
   weave-other reads other =
       let A : List Slot = tableAt x1 base in
       let S : List Slot = tableAt x1 STRETCH in
@@ -358,17 +358,17 @@ module _ {x1 x : List ℕ} {base t first after i j : ℕ} (l : Loom x1 base) (w 
       }
 
   -- the stretch is at its end
-  module _ {m n : ℕ} (size-m : m ≡ word32At x1 STRETCH) (size-n : n ≡ word32At x1 base) (ended : m ≤ j) where
+  module _ {m n : ℕ} (size-m : m ≡ low32At x1 STRETCH) (size-n : n ≡ low32At x1 base) (ended : m ≤ j) where
     last : tableAt x SPARE ++ drop i (tableAt x1 base) ≡ rest t (tableAt x1 base) (tableAt x1 STRETCH) first after
     last = rw (← rest-ends t (tableAt x1 base) (tableAt x1 STRETCH) i j (omega (arith, table-length x1 STRETCH))) (w .list)
 
     -- the rest of what waits can be brought
     pub last-brings : length (rest t (tableAt x1 base) (tableAt x1 STRETCH) first after) ≤ 128
-        → Loom x base × ((i ≤ n) × ((n ≤ word32At x base) × (word32At x SPARE + (n - i) ≤ 128)))
+        → Loom x base × ((i ≤ n) × ((n ≤ low32At x base) × (low32At x SPARE + (n - i) ≤ 128)))
     last-brings fits =
         let low : i ≤ n = omega (arith, w .passed .top, table-length x1 base) in
-        let high : n ≤ word32At x base = omega (arith, ap length waits-then, table-length x base, table-length x1 base) in
-        let free : word32At x SPARE + (n - i) ≤ 128 =
+        let high : n ≤ low32At x base = omega (arith, ap length waits-then, table-length x base, table-length x1 base) in
+        let free : low32At x SPARE + (n - i) ≤ 128 =
         omega (
           arith,
           ap length last,
@@ -390,7 +390,7 @@ module _ {x1 x : List ℕ} {base t first after i j : ℕ} (l : Loom x1 base) (w 
 module _ {x0 x1 x y : List ℕ} {base t first after i j m n : ℕ} (ready : Settles x0 base)
     (p : Passed (tableAt x0 base) (tableAt x0 STRETCH) first after)
     (fits : length (wovenFrom x0 base t first after) ≤ 128) (e : Holds SPARE 128 x0 x1 []) (w : Weaving x1 x base t first after i j)
-    (size-m : m ≡ word32At x1 STRETCH) (size-n : n ≡ word32At x1 base) (ended : m ≤ j)
+    (size-m : m ≡ low32At x1 STRETCH) (size-n : n ≡ low32At x1 base) (ended : m ≤ j)
     (b : Holds SPARE 128 x y (tableAt x SPARE ++ slice i n (tableAt x base))) where
   all-spare : SpareOnly x0 y
   all-spare = frame-trans (e .frame) (frame-trans (w .frame) (b .frame))
@@ -404,11 +404,11 @@ module _ {x0 x1 x y : List ℕ} {base t first after i j m n : ℕ} (ready : Sett
 
   pub put-ready : Stands base 128 y
       × ((128 < 4294967296)
-      × (Stands SPARE 128 y × ((SPARE + tableBytes 128 ≤ base) × ((first ≤ word32At y base) × (first + word32At y SPARE ≤ 128)))))
+      × (Stands SPARE 128 y × ((SPARE + tableBytes 128 ≤ base) × ((first ≤ low32At y base) × (first + low32At y SPARE ≤ 128)))))
   put-ready =
       let stands : Stands base 128 y = stands-kept-above all-spare base 128 (ready .waits) (ready .apart) in
-      let low : first ≤ word32At y base = omega (arith, p .top, ap length all-waits, table-length y base) in
-      let free : first + word32At y SPARE ≤ 128 =
+      let low : first ≤ low32At y base = omega (arith, p .top, ap length all-waits, table-length y base) in
+      let free : first + low32At y SPARE ≤ 128 =
       omega (
         arith,
         length-append (take first (tableAt x0 base)) (rest t (tableAt x0 base) (tableAt x0 STRETCH) first after),
@@ -444,13 +444,13 @@ module _ {x0 x : List ℕ} {base t i j : ℕ} (g : Going x0 x base t i j) where
   pub go-ready : Settles x0 base → Settles x base
   go-ready ready = rw (g .same) ready
 
-  pub go-reads : {m : ℕ} → m ≡ word32At x0 STRETCH → j < m → j < word32At x STRETCH
+  pub go-reads : {m : ℕ} → m ≡ low32At x0 STRETCH → j < m → j < low32At x STRETCH
   go-reads size h = rw (g .same) (omega arith)
 
   -- the stretch is at its end
-  pub go-done : {m : ℕ} → Settles x0 base → m ≡ word32At x0 STRETCH → m ≤ j → Aside base x0 x (settledAt x0 base t)
+  pub go-done : {m : ℕ} → Settles x0 base → m ≡ low32At x0 STRETCH → m ≤ j → Aside base x0 x (settledAt x0 base t)
   go-done {m} ready size h =
-      let past : word32At x STRETCH ≤ j = rw (g .same) (omega arith) in
+      let past : low32At x STRETCH ≤ j = rw (g .same) (omega arith) in
       let all : settledAt x base t ≡ tableAt x base =
       g .list ∙ rest-ends t (tableAt x base) (tableAt x STRETCH) 0 j (omega (arith, table-length x STRETCH)) in
       rw (← g .same)
@@ -460,7 +460,7 @@ module _ {x0 x : List ℕ} {base t i j : ℕ} (g : Going x0 x base t i j) where
         holds = record { frame = frame-refl; stands = go-ready ready .waits; list = sym all };
       })
 
-  module _ (reads : j < word32At x STRETCH) {op : Slot} (read : op ≡ getD (tableAt x STRETCH) j blank) where
+  module _ (reads : j < low32At x STRETCH) {op : Slot} (read : op ≡ getD (tableAt x STRETCH) j blank) where
     in-reach : j < length (tableAt x STRETCH)
     in-reach = omega (arith, table-length x STRETCH)
 

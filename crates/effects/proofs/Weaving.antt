@@ -11,7 +11,7 @@ use lib.Dec.{eqb, ltb}
 use lib.ListN.{length, getD, take, drop, length-drop, take-append-drop}
 use lib.Seq.{slice, length-slice, drop-cons, drop-append-le, length-take-le, getD-take, getD-drop}
 use Rattle.meaning.specs.Base.{if_then_else_}
-use Rattle.words.specs.Words.{word32At}
+use Rattle.words.specs.Words.{low32At}
 use Rattle.words.proofs.Laws.{split}
 use Rattle.slots.specs.declared.Slot.{Slot}
 use Rattle.slots.specs.Slots.{tableAt, blank, placeIn, hit, Sorted}
@@ -133,7 +133,7 @@ module _ (xs : List ℕ) (base h i : ℕ) (low : i ≤ placeIn h (tableAt xs bas
       (λ e. absurd (omega (arith, place-under h A i (ltb-true i (placeIn h A) e))))
       (λ e. omega (arith, ltb-false i (placeIn h A) e))
 
-  module _ {n : ℕ} (size : n ≡ word32At xs base) where
+  module _ {n : ℕ} (size : n ≡ low32At xs base) where
     pub place-later : i < n → getD (tableAt xs base) i blank .handle < h → i + 1 ≤ placeIn h (tableAt xs base)
     place-later b lt =
         let A : List Slot = tableAt xs base in

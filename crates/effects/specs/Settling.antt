@@ -4,7 +4,7 @@ use mathlib.Core.Path.{_≡_}
 use mathlib.Core.List.{List, [], _++_}
 use Prim.Native.Nat.{ℕ, _+_, _≤_, _<_}
 use lib.ListN.{length, getD, take, drop}
-use Rattle.words.specs.Words.{word32At}
+use Rattle.words.specs.Words.{low32At}
 use Rattle.slots.specs.declared.Slot.{Slot}
 use Rattle.slots.specs.Slots.{tableAt, tableBytes, Frame, Stands, Holds, Sorted, blank}
 use Rattle.room.specs.Room.{SPARE, STRETCH, ENTRIES, waitAt}
@@ -63,7 +63,7 @@ settledAt xs base table = joinStretch table (tableAt xs STRETCH) (tableAt xs bas
 -- slot j of the stretch can be woven next, where what waits goes on at i
 pub record Weavable (xs : List ℕ) (base i j : ℕ) : Type 0 where
   pub loom : Loom xs base
-  pub within : j < word32At xs STRETCH
+  pub within : j < low32At xs STRETCH
   pub passed : Passed (tableAt xs base) (tableAt xs STRETCH) i j
   pub fits : length (woven xs base (tableIn xs j) i j) ≤ ENTRIES
 

@@ -10,7 +10,7 @@ ghost use lib.Seq.{slice};
 ghost use Rattle.meaning.specs.Base.{any};
 ghost use Rattle.meaning.specs.RowOperations.{joinKind};
 ghost use Rattle.meaning.specs.Processing.TransitionTables as TransitionTables;
-ghost use Rattle.words.specs.Words.{word32At};
+ghost use Rattle.words.specs.Words.{low32At};
 ghost use Rattle.slots.specs.Slots.{tableAt, Stands, Holds, Sorted, placeIn, hit};
 ghost use Rattle.room.specs.Room.{STRETCH, SPARE, Laid, watchRule, effectMeant, waitsIn};
 ghost use Rattle.room.specs.Joins.{asEffect, joinSlot, joinSlots, Takes, Settleable, AllSettled};
@@ -157,8 +157,8 @@ fn place_from(room: &[u8], base: usize, from: usize, handle: u32) -> usize
 fn bring(room: &mut [u8], base: usize, from: usize, to: usize)
     requires { ⌜ Loom (now room) base ⌝ }
     requires { ⌜ from ≤ to ⌝ }
-    requires { ⌜ to ≤ word32At (now room) base ⌝ }
-    requires { ⌜ word32At (now room) SPARE + (to - from) ≤ 128 ⌝ }
+    requires { ⌜ to ≤ low32At (now room) base ⌝ }
+    requires { ⌜ low32At (now room) SPARE + (to - from) ≤ 128 ⌝ }
     ensures { λ _. ⌜ Holds SPARE 128 (now (room .entry)) (now (room .exit))
         (tableAt (now (room .entry)) SPARE ++ slice from to (tableAt (now (room .entry)) base)) ⌝ }
 {
@@ -172,8 +172,8 @@ fn bring(room: &mut [u8], base: usize, from: usize, to: usize)
 // Slot i of what waits and slot j of the stretch as one, if anything is left of them.
 fn bring_joined(room: &mut [u8], base: usize, i: usize, j: usize)
     requires { ⌜ Loom (now room) base ⌝ }
-    requires { ⌜ i < word32At (now room) base ⌝ }
-    requires { ⌜ j < word32At (now room) STRETCH ⌝ }
+    requires { ⌜ i < low32At (now room) base ⌝ }
+    requires { ⌜ j < low32At (now room) STRETCH ⌝ }
     requires { ⌜ length (tableAt (now room) SPARE ++ joinedAt (now room) base i j) ≤ 128 ⌝ }
     ensures { λ _. ⌜ Holds SPARE 128 (now (room .entry)) (now (room .exit))
         (tableAt (now (room .entry)) SPARE ++ joinedAt (now (room .entry)) base i j) ⌝ }

@@ -9,7 +9,7 @@ use Rattle.meaning.specs.Covers as Covers
 use Rattle.meaning.specs.Covers.{Image}
 use Rattle.meaning.specs.ByteLayouts.{row}
 use Rattle.meaning.proofs.Parsing.{same-value}
-use Rattle.words.specs.Words.{word32At, readable}
+use Rattle.words.specs.Words.{low32At, readable}
 use Rattle.words.proofs.Laws.{many-none, first-of}
 use Rattle.slots.specs.declared.Slot.{Slot}
 use Rattle.slots.specs.Slots.{tableAt, tableBytes, Frame, Stands, Holds}
@@ -77,7 +77,7 @@ pub record Loading (s xs x : List ℕ) (count left here : ℕ) : Type 0 where
   pub read : many left row s here ≡ got rest (length s)
   pub all : readable count row s 11 ≡ liveRows x ++ rest
   pub size : here + 21 * left ≡ length s
-  pub few : word32At x LIVE + left ≤ ROWS
+  pub few : low32At x LIVE + left ≤ ROWS
   pub frame : Frame LIVE INSERTED xs x
   pub stands : Stands LIVE ROWS x
 
@@ -85,7 +85,7 @@ pub loading-start : {s x xs : List ℕ} {next count : ℕ} → WellFormed s next
 unfolding liveRows rowsMeant
 loading-start {s} {x} {xs} {next} {count} w e =
     let l = laid w in
-    let none : word32At xs LIVE ≡ 0 = sym (table-length xs LIVE) ∙ ap length (e .live) in
+    let none : low32At xs LIVE ≡ 0 = sym (table-length xs LIVE) ∙ ap length (e .live) in
     record {
       rest = w .rows;
       read = l .read;

@@ -7,14 +7,14 @@ use lib.ListN.{length}
 use Rattle.meaning.specs.Reading.{readAll}
 use Rattle.meaning.specs.Covers.{Image}
 use Rattle.meaning.specs.ByteLayouts as ByteLayouts
-use Rattle.words.specs.Words.{word32At}
+use Rattle.words.specs.Words.{low32At}
 use Rattle.slots.specs.Slots.{tableAt}
 use Rattle.room.specs.Room.{NEXT, STRETCH, END, waitAt, Laid, Kept, liveRows}
 
 -- next handle and live rows are the start image's, nothing waits for any rule or was done since, and what stands past the tables stays
 pub record Loaded (start : Image) (xs ys : List ℕ) : Type 0 where
   pub laid : Laid ys
-  pub next : word32At ys NEXT ≡ start .next
+  pub next : low32At ys NEXT ≡ start .next
   pub rows : liveRows ys ≡ start .rows
   pub empty : (k : ℕ) → k < 16 → tableAt ys (waitAt k) ≡ []
   pub stretch : tableAt ys STRETCH ≡ []

@@ -5,7 +5,7 @@ use Prim.Native.Nat.{ℕ, _+_, _<_}
 use Rattle.meaning.specs.Reading.{got}
 use Rattle.meaning.specs.Covers.{Row}
 use Rattle.meaning.specs.ByteLayouts as ByteLayouts
-use Rattle.words.specs.Words.{word32At}
+use Rattle.words.specs.Words.{low32At}
 use Rattle.slots.specs.Slots.{tableAt, Frame, Stands}
 use Rattle.room.specs.Room.{LIVE, INSERTED, WAITS, STRETCH, END, ROWS, ENTRIES, waitAt, Laid, liveRows}
 
@@ -31,5 +31,5 @@ pub record Emptied (xs ys : List ℕ) : Type 0 where
 pub record RowLoaded (s : List ℕ) (at : ℕ) (xs ys : List ℕ) : Type 0 where
   pub frame : Frame LIVE INSERTED xs ys
   pub stands : Stands LIVE ROWS ys
-  pub size : word32At ys LIVE ≡ word32At xs LIVE + 1
+  pub size : low32At ys LIVE ≡ low32At xs LIVE + 1
   pub rows : (r : Row) (next : ℕ) → ByteLayouts.row s at ≡ got r next → liveRows ys ≡ liveRows xs ++ (r ∷ [])

@@ -1,7 +1,7 @@
 // The working room at the start of a run: every table empty but the live rows, which are the start image's.
 ghost use Prim.Native.Nat.{_+_, _≤_, _<_};
 ghost use lib.ListN.{length};
-ghost use Rattle.words.specs.Words.{word32At};
+ghost use Rattle.words.specs.Words.{low32At};
 ghost use Rattle.slots.specs.Slots.{Stands};
 ghost use Rattle.image.specs.Images.{WellFormed};
 ghost use Rattle.room.specs.Room.{LIVE, END, ROWS};
@@ -37,7 +37,7 @@ fn empty_all(room: &mut [u8])
 // The row of an image at a place joins the live rows.
 fn load_row(room: &mut [u8], s: &[u8], at: usize)
     requires { ⌜ Stands LIVE ROWS (now room) ⌝ }
-    requires { ⌜ word32At (now room) LIVE < ROWS ⌝ }
+    requires { ⌜ low32At (now room) LIVE < ROWS ⌝ }
     requires { ⌜ at + 21 ≤ length (now s) ⌝ }
     ensures { λ _. ⌜ RowLoaded (now (s .entry)) at (now (room .entry)) (now (room .exit)) ⌝ }
 {
@@ -65,7 +65,7 @@ pub fn load(room: &mut [u8], s: &[u8], next: u32, count: usize)
     requires { ⌜ WellFormed (now s) next count ⌝ }
     ensures { λ _. ⌜ Loads (now (s .entry)) (now (room .entry)) (now (room .exit)) ⌝ }
 {
-    words::put32(room, room::NEXT, next);
+    words::put_low32(room, room::NEXT, next);
     empty_all(room);
     let mut left = count;
     let mut here = image::FIRST;

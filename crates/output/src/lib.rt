@@ -4,7 +4,7 @@ ghost use Prim.Native.Nat.{_+_, _≤_, _<_};
 ghost use lib.ListN.{length};
 ghost use Rattle.meaning.specs.Base.{inFrontOf};
 ghost use Rattle.meaning.specs.ByteLayouts.{imageBytes};
-ghost use Rattle.words.specs.Words.{word32At};
+ghost use Rattle.words.specs.Words.{low32At};
 ghost use Rattle.slots.specs.Slots.{Stands};
 ghost use Rattle.room.specs.Room.{NEXT, LIVE, ROWS, liveRows};
 ghost use Rattle.output.specs.Outputs.{LiveRow};
@@ -13,7 +13,7 @@ use image::Row;
 // The live row i, as a row of an image.
 fn live_row(room: &[u8], i: usize) -> Row
     requires { ⌜ Stands LIVE ROWS (now room) ⌝ }
-    requires { ⌜ i < word32At (now room) LIVE ⌝ }
+    requires { ⌜ i < low32At (now room) LIVE ⌝ }
     ensures { λ r. ⌜ LiveRow (now (room .entry)) i r ⌝ }
 {
     let e = slots::slot_at(room, room::LIVE, room::ROWS, i);
@@ -32,10 +32,10 @@ pub fn put_image(out: &mut [u8], room: &[u8])
     requires { ⌜ Stands LIVE ROWS (now room) ⌝ }
     requires { ⌜ 1355 ≤ length (now out) ⌝ }
     ensures { λ _. ⌜ now (out .exit) ≡ inFrontOf (imageBytes
-        (record { next = word32At (now (room .entry)) NEXT; rows = liveRows (now (room .entry)) })) (now (out .entry)) ⌝ }
+        (record { next = low32At (now (room .entry)) NEXT; rows = liveRows (now (room .entry)) })) (now (out .entry)) ⌝ }
 {
     let n = slots::size(room, room::LIVE);
-    image::put_head(out, words::word32(room, room::NEXT), n);
+    image::put_head(out, words::low32(room, room::NEXT), n);
     let mut left = n;
     let mut here = image::FIRST;
     while 0 < left {

@@ -8,7 +8,7 @@ use Rattle.meaning.specs.Covers.{Image, Rule}
 use Rattle.meaning.specs.ByteLayouts.{operation}
 use Rattle.meaning.specs.Processing.{Ending, process}
 use Rattle.meaning.proofs.Made.{Sound}
-use Rattle.words.specs.Words.{word32At, readable}
+use Rattle.words.specs.Words.{low32At, readable}
 use Rattle.room.specs.Room.{NEXT, END, Laid, Kept, liveRows}
 use Rattle.room.specs.Represents.{Represents}
 use Rattle.room.proofs.Marks.{starting}
@@ -37,7 +37,7 @@ pub record EndsAs (ys : List ℕ) (e : Ending) (r : Ended) : Type 0 where
   pub laid : Laid ys
   pub outcome : outcomeMeant (r .outcome) ≡ e .outcome
   pub count : r .count ≡ e .count
-  pub next : word32At ys NEXT ≡ e .image .next
+  pub next : low32At ys NEXT ≡ e .image .next
   pub rows : liveRows ys ≡ e .image .rows
 
 -- the run ended as the specification says, for every start that the room represents; what stands past the tables stays

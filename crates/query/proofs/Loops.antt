@@ -8,7 +8,7 @@ use lib.ListN.{length, getD, take, drop, drop-of-length-le, length-map}
 use lib.Seq.{drop-cons, length-take-le}
 use Rattle.meaning.specs.Base.{select}
 use Rattle.meaning.specs.Covers.{Row}
-use Rattle.words.specs.Words.{word32At}
+use Rattle.words.specs.Words.{low32At}
 use Rattle.slots.specs.Slots.{tableAt, tableBytes, Frame, Stands, Holds, blank, withKind}
 use Rattle.slots.proofs.Frames.{frame-refl, frame-trans}
 use Rattle.slots.proofs.Tables.{table-length, table-kept-below, stands-kept-below}
@@ -83,7 +83,7 @@ module _ {x0 x : List ℕ} {base : ℕ} (rows : Picked) {j : ℕ} (s : Choosing 
   pub choosing-stands : Stands base ROWS x
   choosing-stands = stands-kept-below (s .frame) base ROWS (s .source) (s .below)
 
-  pub choosing-room : word32At x CHOSEN < ROWS
+  pub choosing-room : low32At x CHOSEN < ROWS
   unfolding rowsMeant
   choosing-room =
       let taken : length (take j (rows .places)) ≡ j = length-take-le j (rows .places) (omega (arith, s .len, choosing-few)) in
@@ -94,7 +94,7 @@ module _ {x0 x : List ℕ} {base : ℕ} (rows : Picked) {j : ℕ} (s : Choosing 
       omega (arith, table-length x CHOSEN, choosing-few)
 
   module _ {i : ℕ} (is : i ≡ getD (rows .places) j 0) where
-    pub choosing-inside : i < word32At x base
+    pub choosing-inside : i < low32At x base
     choosing-inside = omega (arith, is, s .within .inside j more, table-length x base, ap length table-kept)
 
     pub choosing-more : {y : List ℕ} → Holds CHOSEN ROWS x y (tableAt x CHOSEN ++ (withKind (getD (tableAt x base) i blank) (i % 256) ∷ []))

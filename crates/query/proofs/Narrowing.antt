@@ -10,7 +10,7 @@ use lib.Dec.{ltb}
 use lib.ListN.{length, getD, set, take, length-set}
 use lib.Seq.{take-suc, take-all, take-set-le, getD-set-same, getD-set-other}
 use Rattle.meaning.specs.Base.{if_then_else_, select, someIn}
-use Rattle.words.specs.Words.{word32At}
+use Rattle.words.specs.Words.{low32At}
 use Rattle.words.proofs.Laws.{split}
 use Rattle.slots.specs.declared.Slot.{Slot}
 use Rattle.slots.specs.Slots.{tableAt, blank}
@@ -203,6 +203,6 @@ module _ {test : Slot → Bool} (l : List Slot) (rows : Picked) where
 
 -- a place that is read is one of a table in the room
 pub narrowing-stands : {test : Slot → Bool} (xs : List ℕ) (base : ℕ) (rows : Picked) {places : List ℕ} {n j i : ℕ}
-    → Narrowing test (tableAt xs base) rows places n j → j < rows .count → i ≡ getD places j 0 → i < word32At xs base
+    → Narrowing test (tableAt xs base) rows places n j → j < rows .count → i ≡ getD places j 0 → i < low32At xs base
 narrowing-stands xs base rows s h is =
     omega (arith, is, narrowing-inside (tableAt xs base) rows s h, table-length xs base)

@@ -8,7 +8,7 @@ ghost use Rattle.meaning.specs.Base.{select, someIn};
 ghost use Rattle.meaning.specs.Values.{signed, compare as Values·compare};
 ghost use Rattle.meaning.specs.ByteLayouts.{pair, comparison};
 ghost use Rattle.meaning.specs.Processing.Queries as Queries;
-ghost use Rattle.words.specs.Words.{readable, word32At};
+ghost use Rattle.words.specs.Words.{readable, low32At};
 ghost use Rattle.slots.specs.Slots.{tableAt, Stands, blank};
 ghost use Rattle.terms.specs.Terms.{termMeant, termsMeant, queryMeant};
 ghost use Rattle.room.specs.Room.{ROWS, Laid, rowMeant, liveRows, transitionIn};
@@ -62,7 +62,7 @@ fn base_of(source: usize) -> usize
 // Whether the slot i of where a source's rows stand is one of the source's: asked before the row is read.
 fn shown_at(room: &[u8], base: usize, source: usize, i: usize) -> bool
     requires { ⌜ Stands base ROWS (now room) ⌝ }
-    requires { ⌜ i < word32At (now room) base ⌝ }
+    requires { ⌜ i < low32At (now room) base ⌝ }
     ensures { λ r. ⌜ r ≡ Chosen·shows source (getD (tableAt (now (room .entry)) base) i blank) ⌝ }
 {
     if source < 4 {
@@ -245,7 +245,7 @@ fn some_agrees(
 // What the own columns of the pairs hold in the row i of a table.
 fn wanted_by(room: &[u8], base: usize, i: usize, p: Pairs) -> Wanted
     requires { ⌜ Stands base ROWS (now room) ⌝ }
-    requires { ⌜ i < word32At (now room) base ⌝ }
+    requires { ⌜ i < low32At (now room) base ⌝ }
     ensures { λ r. ⌜ r ≡ wantedOf p (getD (tableAt (now (room .entry)) base) i blank) ⌝ }
 {
     Wanted {
@@ -271,7 +271,7 @@ fn keeps(
     s3: &[u32; 64],
 ) -> bool
     requires { ⌜ Stands base ROWS (now room) ⌝ }
-    requires { ⌜ i < word32At (now room) base ⌝ }
+    requires { ⌜ i < low32At (now room) base ⌝ }
     requires { ⌜ (0 < others .count) × (others .count ≤ 64) ⌝ }
     requires { ⌜ ColumnsOf (tableAt (now room) from) others p (now s0) (now s1) (now s2) (now s3) ⌝ }
     ensures { λ r. ⌜ r ≡ keptBy negated (agreesWith p (slotsOf (tableAt (now (room .entry)) from) others)

@@ -13,7 +13,7 @@ use Rattle.meaning.specs.Trace.{OnlyIn}
 use Rattle.meaning.proofs.Lists.{noElement, anElement}
 use Rattle.meaning.proofs.Parsing.{signed-fits}
 use Rattle.meaning.proofs.Made.{Proper, Fits, insertFits, deleteFits, updateFits}
-use Rattle.words.specs.Words.{word32At}
+use Rattle.words.specs.Words.{low32At}
 use Rattle.slots.specs.declared.Slot.{Slot}
 use Rattle.slots.specs.Slots.{tableAt, blank}
 use Rattle.slots.proofs.Frames.{Fits as SlotFits}
@@ -41,8 +41,8 @@ pub live-length : {s : State} {xs tables : List ℕ} → Represents xs tables s
 unfolding liveRows
 live-length {xs = xs} p = sym (rows-length (tableAt xs LIVE)) ∙ ap length (p .rows)
 
-pub fits-insert : {s : State} {xs tables : List ℕ} → Represents xs tables s → (e : Slot) → e .handle ≡ word32At xs NEXT
-    → Proper (rowMeant e) → length (tableAt xs LIVE) < ROWS → word32At xs NEXT < lastHandle → Fits (s .image) (inserts (rowMeant e))
+pub fits-insert : {s : State} {xs tables : List ℕ} → Represents xs tables s → (e : Slot) → e .handle ≡ low32At xs NEXT
+    → Proper (rowMeant e) → length (tableAt xs LIVE) < ROWS → low32At xs NEXT < lastHandle → Fits (s .image) (inserts (rowMeant e))
 unfolding rowMeant
 fits-insert p e q proper room left =
     insertFits (q ∙ p .next) proper (omega (arith, live-length p)) (omega (arith, p .next))

@@ -4,7 +4,7 @@ use mathlib.Core.Path.{_≡_, refl, ap, _∙_}
 use mathlib.Core.List.{List}
 use Prim.Native.Nat.{ℕ, zero, suc, _+_, _*_, _≤_, _<_}
 use native.Mathlib.Omega.{arith}
-use Rattle.words.specs.Words.{word32At}
+use Rattle.words.specs.Words.{low32At}
 use Rattle.slots.specs.Slots.{slotAt, slotsFrom, tableAt, tableBytes, Frame, Stands}
 use Rattle.slots.proofs.Tables.{stands-kept-below, stands-kept-above}
 use Rattle.room.specs.Room.{NEXT, LIVE, INSERTED, DELETED, NEW, OLD, CHOSEN, WORKED, WAITS, STRETCH, END, ROWS, ENTRIES, waitAt}
@@ -29,8 +29,8 @@ module _ {lo hi : ℕ} {xs ys : List ℕ} (f : Frame lo hi xs ys) where
 -- ---- What stands there
 
 module _ {lo hi : ℕ} {xs ys : List ℕ} (k : Kept lo hi xs ys) where
-  pub word-kept : (at : ℕ) → lo ≤ at → at + 4 ≤ hi → word32At ys at ≡ word32At xs at
-  unfolding word32At
+  pub word-kept : (at : ℕ) → lo ≤ at → at + 4 ≤ hi → low32At ys at ≡ low32At xs at
+  unfolding low32At
   word-kept at a b =
       rw (
         k .same at (omega arith) (omega arith),
@@ -59,8 +59,8 @@ module _ {lo hi : ℕ} {xs ys : List ℕ} (k : Kept lo hi xs ys) where
   pub table-kept : (base most : ℕ) → Stands base most xs → lo ≤ base → base + tableBytes most ≤ hi → tableAt ys base ≡ tableAt xs base
   unfolding tableAt tableBytes
   table-kept base most s a b =
-      let small : word32At xs base ≤ most = s .size in
-      rw (word-kept base a (omega arith)) (slots-kept (base + 4) (word32At xs base) (omega arith) (omega arith))
+      let small : low32At xs base ≤ most = s .size in
+      rw (word-kept base a (omega arith)) (slots-kept (base + 4) (low32At xs base) (omega arith) (omega arith))
 
   module _ (l : Laid xs) where
     pub live-kept : lo ≤ LIVE → INSERTED ≤ hi → liveRows ys ≡ liveRows xs

@@ -14,7 +14,7 @@ use Rattle.meaning.specs.RowOperations.{RowOperation, makeAll, netEffect}
 use Rattle.meaning.specs.Processing.{State, since, waits, moved, afterLog}
 use Rattle.meaning.proofs.Made.{Sound, Made.none as noneMade}
 use Rattle.meaning.proofs.NetEffects.{netEffect-none}
-use Rattle.words.specs.Words.{Bytes, word32At}
+use Rattle.words.specs.Words.{Bytes, low32At}
 use Rattle.words.proofs.Laws.{all-same}
 use Rattle.slots.specs.Slots.{tableAt}
 use Rattle.room.specs.Room.{NEXT, STRETCH, waitAt, Laid, waitMeant, liveRows, waitsIn, stretchIn}
@@ -125,7 +125,7 @@ reached-starting rules s =
     record { sound = s; made = noneMade; image = refl; marked = λ k. rw (all-same {A = ℕ} (length rules) k 0) (omega arith) }
 
 pub represents-starting : (rules : List Rule) {start : Image} {xs tables : List ℕ} → Laid xs → Bytes xs
-    → word32At xs NEXT ≡ start .next → liveRows xs ≡ start .rows
+    → low32At xs NEXT ≡ start .next → liveRows xs ≡ start .rows
     → ((k : ℕ) → k < 16 → tableAt xs (waitAt k) ≡ []) → tableAt xs STRETCH ≡ [] → Ended tables
     → Represents xs tables (starting rules start)
 unfolding starting waitsIn stretchIn waitMeant

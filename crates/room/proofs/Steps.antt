@@ -14,7 +14,7 @@ use Rattle.meaning.proofs.Lookups.{makeAll-append, made-front, made-back, made-
 use Rattle.meaning.proofs.Images.{makeAll-sound}
 use Rattle.meaning.proofs.NetEffects.{netEffect-more, netEffect-listed}
 use Rattle.meaning.proofs.Capacity.{capacity}
-use Rattle.words.specs.Words.{Bytes, word32At}
+use Rattle.words.specs.Words.{Bytes, low32At}
 use Rattle.slots.specs.declared.Slot.{Slot}
 use Rattle.slots.specs.Slots.{tableAt, tableBytes, removeAt, blank}
 use Rattle.room.specs.Room.{NEXT, LIVE, STRETCH, ENTRIES, waitAt, rowMeant, rowsMeant, effectMeant, waitMeant, liveRows, waitsIn}
@@ -169,7 +169,7 @@ says-update mask old new = record { handle = refl; effect = refl }
 
 module _ {start : Image} {s : State} {xs ys tables : List ℕ} {next : ℕ} (reached : Reached start s)
     (p : Represents xs tables s) (bytes : Bytes ys) where
-  pub turned-insert : (e : Slot) → Fits (s .image) (inserts (rowMeant e)) → next ≡ word32At xs NEXT + 1 → Turned xs ys (tableAt xs LIVE ++ (e ∷ [])) next (asEffect 1 0 e)
+  pub turned-insert : (e : Slot) → Fits (s .image) (inserts (rowMeant e)) → next ≡ low32At xs NEXT + 1 → Turned xs ys (tableAt xs LIVE ++ (e ∷ [])) next (asEffect 1 0 e)
       → Represents ys tables (madeOne (inserts (rowMeant e)) s)
   unfolding make liveRows
   turned-insert e f q t =
@@ -178,7 +178,7 @@ module _ {start : Image} {s : State} {xs ys tables : List ℕ} {next : ℕ} (rea
       (omega (arith, p .next))
 
   pub turned-delete : (i : ℕ) → i < length (tableAt xs LIVE)
-      → Fits (s .image) (deletes (rowMeant (getD (tableAt xs LIVE) i blank))) → next ≡ word32At xs NEXT
+      → Fits (s .image) (deletes (rowMeant (getD (tableAt xs LIVE) i blank))) → next ≡ low32At xs NEXT
       → Turned xs ys (removeAt i (tableAt xs LIVE)) next (asEffect 2 0 (getD (tableAt xs LIVE) i blank))
       → Represents ys tables (madeOne (deletes (rowMeant (getD (tableAt xs LIVE) i blank))) s)
   unfolding make liveRows rowMeant
@@ -188,7 +188,7 @@ module _ {start : Image} {s : State} {xs ys tables : List ℕ} {next : ℕ} (rea
       (q ∙ p .next)
 
   pub turned-update : (mask i : ℕ) (new : Slot) → i < length (tableAt xs LIVE)
-      → Fits (s .image) (updates mask (rowMeant (getD (tableAt xs LIVE) i blank)) (rowMeant new)) → next ≡ word32At xs NEXT
+      → Fits (s .image) (updates mask (rowMeant (getD (tableAt xs LIVE) i blank)) (rowMeant new)) → next ≡ low32At xs NEXT
       → Turned xs ys (set (tableAt xs LIVE) i new) next (asEffect 3 mask (getD (tableAt xs LIVE) i blank))
       → Represents ys tables (madeOne (updates mask (rowMeant (getD (tableAt xs LIVE) i blank)) (rowMeant new)) s)
   unfolding make liveRows rowMeant

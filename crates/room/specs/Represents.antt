@@ -7,7 +7,7 @@ use Rattle.meaning.specs.Covers.{Image}
 use Rattle.meaning.specs.RowOperations.{RowOperation, handleOf, effectOf, make, makeAll, netEffect}
 use Rattle.meaning.specs.Processing.{State}
 use Rattle.meaning.proofs.Made.{Sound, Made}
-use Rattle.words.specs.Words.{Bytes, word32At}
+use Rattle.words.specs.Words.{Bytes, low32At}
 use Rattle.slots.specs.declared.Slot.{Slot}
 use Rattle.meaning.proofs.OwnTable.{ownOf}
 use Rattle.room.specs.Joins.{Ended}
@@ -19,7 +19,7 @@ use Rattle.room.specs.Room.{NEXT, Laid, effectMeant, liveRows, waitsIn, 
 pub record Represents (xs tables : List ℕ) (s : State) : Type 0 where
   pub laid : Laid xs
   pub bytes : Bytes xs
-  pub next : word32At xs NEXT ≡ s .image .next
+  pub next : low32At xs NEXT ≡ s .image .next
   pub rows : liveRows xs ≡ s .image .rows
   pub ended : Ended tables
   pub joined : List RowOperation

@@ -7,7 +7,7 @@ use native.Mathlib.Numerals.{add-one}
 use native.Mathlib.Omega.{arith}
 use borrow.Author.Tests.{lt-ltb, le-ltb}
 use lib.ListN.{getD, set}
-use Rattle.words.specs.Words.{word32At}
+use Rattle.words.specs.Words.{low32At}
 use Rattle.slots.specs.declared.Slot.{Slot}
 use Rattle.slots.specs.declared.Found.{Found}
 use Rattle.slots.specs.declared.Found.the-variants.{At}
@@ -37,10 +37,10 @@ pub record Front (xs ys : List ℕ) (live : List Slot) (next : ℕ) : Type 0 whe
   pub frame : Frame NEXT INSERTED xs ys
   pub stands : Stands LIVE ROWS ys
   pub rows : tableAt ys LIVE ≡ live
-  pub handle : word32At ys NEXT ≡ next
+  pub handle : low32At ys NEXT ≡ next
 
 -- a change of the live rows
-pub front-held : {xs ys : List ℕ} {live : List Slot} → Holds LIVE ROWS xs ys live → Front xs ys live (word32At xs NEXT)
+pub front-held : {xs ys : List ℕ} {live : List Slot} → Holds LIVE ROWS xs ys live → Front xs ys live (low32At xs NEXT)
 unfolding tableBytes
 front-held h =
     record {
@@ -97,13 +97,13 @@ front-turned l f a =
 
 -- ---- An insert
 
-module _ {xs ys zs : List ℕ} {new : Slot} (h table : ℕ) (e : Slot) (is : h ≡ word32At xs NEXT) (made : new ≡ rowOf h table e)
+module _ {xs ys zs : List ℕ} {new : Slot} (h table : ℕ) (e : Slot) (is : h ≡ low32At xs NEXT) (made : new ≡ rowOf h table e)
     (held : Holds LIVE ROWS xs ys (tableAt xs LIVE ++ (new ∷ []))) (put : PutWord ys zs NEXT (h + 1)) where
   inserted-is : new ≡ insertedSlot xs table e
   unfolding insertedSlot
   inserted-is = made ∙ rw is
 
-  inserted-front : Front xs zs (tableAt xs LIVE ++ (insertedSlot xs table e ∷ [])) (suc (word32At xs NEXT))
+  inserted-front : Front xs zs (tableAt xs LIVE ++ (insertedSlot xs table e ∷ [])) (suc (low32At xs NEXT))
   inserted-front = rw (← inserted-is, ← is, ← add-one h) (front-numbered (front-held held) put)
 
   module _ {op : Slot} (tells : op ≡ asEffect 1 0 new) (can : Joinable xs (asEffect 1 0 (insertedSlot xs table e))) where
@@ -119,7 +119,7 @@ module _ (xs : List ℕ) {r : Found} (h i : ℕ) (asked : r ≡ findIn h (tableA
   found-at : findIn h (tableAt xs LIVE) ≡ At i
   found-at = sym asked ∙ at
 
-  pub found-within : i < word32At xs LIVE
+  pub found-within : i < low32At xs LIVE
   found-within = omega (arith, find-at h (tableAt xs LIVE) found-at .0, table-length xs LIVE)
 
   module _ {ys : List ℕ} {live : List Slot} {old op : Slot} (kind mask : ℕ) (held : Holds LIVE ROWS xs ys live)
@@ -132,15 +132,15 @@ module _ (xs : List ℕ) {r : Found} (h i : ℕ) (asked : r ≡ findIn h (tableA
     found-takes can = rw told-is (front-takes (front-held held) (rw found-at at can))
 
     pub found-turned : {zs : List ℕ} → Laid xs → Joined ys zs op
-        → Turned xs zs live (word32At xs NEXT) (operationAt xs kind mask i)
+        → Turned xs zs live (low32At xs NEXT) (operationAt xs kind mask i)
     found-turned l a = front-turned l (front-held held) (rw told-is at a)
 
-  pub found-deleted : {zs : List ℕ} → Turned xs zs (removeAt i (tableAt xs LIVE)) (word32At xs NEXT) (operationAt xs 2 0 i)
+  pub found-deleted : {zs : List ℕ} → Turned xs zs (removeAt i (tableAt xs LIVE)) (low32At xs NEXT) (operationAt xs 2 0 i)
       → Deleted xs zs (findIn h (tableAt xs LIVE)) Made
   found-deleted t = rw found-at t
 
   pub found-updated : (mask : ℕ) (new : Slot) {zs : List ℕ}
-      → Turned xs zs (set (tableAt xs LIVE) i new) (word32At xs NEXT) (operationAt xs 3 mask i)
+      → Turned xs zs (set (tableAt xs LIVE) i new) (low32At xs NEXT) (operationAt xs 3 mask i)
       → Updated xs zs mask new (findIn h (tableAt xs LIVE)) Made
   found-updated mask new t = rw found-at t
 

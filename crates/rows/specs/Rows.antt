@@ -6,7 +6,7 @@ use lib.Dec.{ltb}
 use lib.ListN.{getD, set}
 use Rattle.meaning.specs.Base.{if_then_else_}
 use Rattle.meaning.specs.Covers.{mostRows, lastHandle}
-use Rattle.words.specs.Words.{word32At}
+use Rattle.words.specs.Words.{low32At}
 use Rattle.slots.specs.declared.Slot.{Slot}
 use Rattle.slots.specs.declared.Found.{Found}
 use Rattle.slots.specs.declared.Found.the-variants.{At, Nothing}
@@ -29,11 +29,11 @@ rowOf handle table e = record { handle = handle; kind = 0; mask = 0; table = tab
 
 -- the row that is inserted
 unfoldable pub insertedSlot : List ℕ → ℕ → Slot → Slot
-insertedSlot xs table e = rowOf (word32At xs NEXT) table e
+insertedSlot xs table e = rowOf (low32At xs NEXT) table e
 
 abbrev pub Inserted : List ℕ → List ℕ → ℕ → Slot → Type 0
 Inserted xs ys table e =
-    Turned xs ys (tableAt xs LIVE ++ (insertedSlot xs table e ∷ [])) (suc (word32At xs NEXT)) (asEffect 1 0 (insertedSlot xs table e))
+    Turned xs ys (tableAt xs LIVE ++ (insertedSlot xs table e ∷ [])) (suc (low32At xs NEXT)) (asEffect 1 0 (insertedSlot xs table e))
 
 -- the operation of a row that was found
 unfoldable pub operationAt : List ℕ → ℕ → ℕ → ℕ → Slot
@@ -46,14 +46,14 @@ CanJoin xs kind mask (At i) = Joinable xs (operationAt xs kind mask i)
 
 -- a delete: of the row that was found, or none was and nothing changed
 abbrev pub Deleted : List ℕ → List ℕ → Found → Looked → Type 0
-Deleted xs ys (At i) Made = Turned xs ys (removeAt i (tableAt xs LIVE)) (word32At xs NEXT) (operationAt xs 2 0 i)
+Deleted xs ys (At i) Made = Turned xs ys (removeAt i (tableAt xs LIVE)) (low32At xs NEXT) (operationAt xs 2 0 i)
 Deleted xs ys (At i) NoSuchRow = ⊥
 Deleted xs ys Nothing Made = ⊥
 Deleted xs ys Nothing NoSuchRow = ys ≡ xs
 
 -- an update: another row in the place of the one that was found, or none was and nothing changed
 abbrev pub Updated : List ℕ → List ℕ → ℕ → Slot → Found → Looked → Type 0
-Updated xs ys mask new (At i) Made = Turned xs ys (set (tableAt xs LIVE) i new) (word32At xs NEXT) (operationAt xs 3 mask i)
+Updated xs ys mask new (At i) Made = Turned xs ys (set (tableAt xs LIVE) i new) (low32At xs NEXT) (operationAt xs 3 mask i)
 Updated xs ys mask new (At i) NoSuchRow = ⊥
 Updated xs ys mask new Nothing Made = ⊥
 Updated xs ys mask new Nothing NoSuchRow = ys ≡ xs

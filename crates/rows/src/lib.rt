@@ -3,7 +3,7 @@
 ghost use mathlib.Core.Path.{_≡_};
 ghost use Prim.Native.Nat.{_≤_, _<_};
 ghost use lib.ListN.{length};
-ghost use Rattle.words.specs.Words.{word32At};
+ghost use Rattle.words.specs.Words.{low32At};
 ghost use Rattle.slots.specs.Slots.{tableAt, Sorted, findIn};
 ghost use Rattle.room.specs.Room.{NEXT, LIVE, Laid};
 ghost use Rattle.room.specs.Joins.{asEffect, Joinable};
@@ -29,16 +29,16 @@ pub const LAST: u32 = 4294967295;
 
 pub fn next(room: &[u8]) -> u32
     requires { ⌜ Laid (now room) ⌝ }
-    ensures { λ r. ⌜ r ≡ word32At (now (room .entry)) NEXT ⌝ }
+    ensures { λ r. ⌜ r ≡ low32At (now (room .entry)) NEXT ⌝ }
 {
-    words::word32(room, room::NEXT)
+    words::low32(room, room::NEXT)
 }
 
 // Whether n rows more have room, and handles.
 pub fn space_for(room: &[u8], n: usize) -> Space
     requires { ⌜ Laid (now room) ⌝ }
     requires { ⌜ n ≤ 64 ⌝ }
-    ensures { λ r. ⌜ r ≡ spaceFor (length (tableAt (now (room .entry)) LIVE)) (word32At (now (room .entry)) NEXT) n ⌝ }
+    ensures { λ r. ⌜ r ≡ spaceFor (length (tableAt (now (room .entry)) LIVE)) (low32At (now (room .entry)) NEXT) n ⌝ }
 {
     if room::ROWS < slots::size(room, room::LIVE) + n {
         return Space::Full;
@@ -68,14 +68,14 @@ fn row_of(handle: u32, table: u8, e: Slot) -> Slot
 // A row with the next handle, which then rises by one.
 pub fn insert_row(room: &mut [u8], table: u8, e: Slot)
     requires { ⌜ length (tableAt (now room) LIVE) < 64 ⌝ }
-    requires { ⌜ word32At (now room) NEXT < 4294967295 ⌝ }
+    requires { ⌜ low32At (now room) NEXT < 4294967295 ⌝ }
     requires { ⌜ Joinable (now room) (asEffect 1 0 (insertedSlot (now room) table e)) ⌝ }
     ensures { λ _. ⌜ Inserted (now (room .entry)) (now (room .exit)) table e ⌝ }
 {
     let handle = next(room);
     let new = row_of(handle, table, e);
     slots::push(room, room::LIVE, room::ROWS, new);
-    words::put32(room, room::NEXT, handle + 1);
+    words::put_low32(room, room::NEXT, handle + 1);
     effects::join(room, 0, effects::as_effect(1, 0, new));
 }
 

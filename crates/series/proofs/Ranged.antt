@@ -4,8 +4,8 @@ use Prim.Native.Nat.{ℕ, zero, suc, _+_}
 use Rattle.meaning.proofs.Lists.{Each, noElement, anElement}
 use Rattle.meaning.proofs.Parsing.{signed-fits}
 use Rattle.meaning.proofs.ActionsFit.{Ranged, RangedTables}
-use Rattle.words.specs.Words.{Bytes, word32At}
-use Rattle.words.proofs.Laws.{word32-lt}
+use Rattle.words.specs.Words.{Bytes, low32At}
+use Rattle.words.proofs.Laws.{low32-lt}
 use Rattle.slots.specs.Slots.{slotAt, slotsFrom, tableAt}
 use Rattle.room.specs.Room.{INSERTED, DELETED, NEW, OLD, rowMeant, rowsMeant, transitionIn}
 
@@ -17,16 +17,16 @@ module _ (xs : List ℕ) (bytes : Bytes xs) where
       anElement
       (record {
         inRange =
-            anElement (signed-fits _ (word32-lt xs bytes (at + 8)))
-            (anElement (signed-fits _ (word32-lt xs bytes (at + 12)))
-            (anElement (signed-fits _ (word32-lt xs bytes (at + 16)))
-            (anElement (signed-fits _ (word32-lt xs bytes (at + 20))) noElement)));
+            anElement (signed-fits _ (low32-lt xs bytes (at + 8)))
+            (anElement (signed-fits _ (low32-lt xs bytes (at + 12)))
+            (anElement (signed-fits _ (low32-lt xs bytes (at + 16)))
+            (anElement (signed-fits _ (low32-lt xs bytes (at + 20))) noElement)));
       })
       (slots-ranged (at + 24) n)
 
   table-ranged : (base : ℕ) → Each Ranged (rowsMeant (tableAt xs base))
   unfolding tableAt
-  table-ranged base = slots-ranged (base + 4) (word32At xs base)
+  table-ranged base = slots-ranged (base + 4) (low32At xs base)
 
   pub transition-ranged : RangedTables (transitionIn xs)
   unfolding transitionIn

@@ -11,9 +11,9 @@ use lib.Dec.{eqb, ltb}
 use lib.ListN.{length, getD}
 use lib.Seq.{sets, length-sets, ext-getD}
 use Rattle.meaning.specs.Base.{if_then_else_}
-use Rattle.meaning.specs.ByteLayouts.{bytes4}
-use Rattle.words.specs.Words.{Bytes, word32At}
-use Rattle.words.proofs.Laws.{split, word32-lt, read-written32, written32-below, written32-above}
+use Rattle.words.specs.Words.{lowBytes4}
+use Rattle.words.specs.Words.{Bytes, low32At}
+use Rattle.words.proofs.Laws.{split, low32-lt, read-written-low32, written-low32-below, written-low32-above}
 use Rattle.slots.specs.declared.Slot.{Slot}
 use Rattle.slots.specs.Slots.{slotAt, Frame, Stored, Alike, blank, withValue, withMarks}
 
@@ -55,8 +55,8 @@ alike-part {xs} {ys} {a} {b} l d m h = record { same = λ j p. rw (add-assoc a d
 pub alike-rest : {xs ys : List ℕ} (a b n : ℕ) → Alike xs ys a b (24 * suc n) → Alike xs ys (a + 24) (b + 24) (24 * n)
 alike-rest a b n l = alike-part l 24 (24 * n) (omega arith)
 
-word-alike : {xs ys : List ℕ} {a b n : ℕ} → Alike xs ys a b n → 4 ≤ n → word32At ys b ≡ word32At xs a
-unfolding word32At
+word-alike : {xs ys : List ℕ} {a b n : ℕ} → Alike xs ys a b n → 4 ≤ n → low32At ys b ≡ low32At xs a
+unfolding low32At
 word-alike {xs} {ys} {a} {b} l h =
     let first : getD ys b 0 ≡ getD xs a 0 = rw (add-zero a, add-zero b) at (l .same 0 (omega arith)) in
     rw (first, l .same 1 (omega arith), l .same 2 (omega arith), l .same 3 (omega arith))
@@ -83,10 +83,10 @@ module _ {lo hi : ℕ} {xs ys : List ℕ} (f : Frame lo hi xs ys) (at : ℕ) whe
   kept-above n h = record { same = λ j p. f .above (at + j) (omega arith) }
 
 module _ {lo hi : ℕ} {xs ys : List ℕ} (f : Frame lo hi xs ys) (at : ℕ) where
-  pub word-kept-below : at + 4 ≤ lo → word32At ys at ≡ word32At xs at
+  pub word-kept-below : at + 4 ≤ lo → low32At ys at ≡ low32At xs at
   word-kept-below h = word-alike (kept-below f at 4 h) (omega arith)
 
-  pub word-kept-above : hi ≤ at → word32At ys at ≡ word32At xs at
+  pub word-kept-above : hi ≤ at → low32At ys at ≡ low32At xs at
   word-kept-above h = word-alike (kept-above f at 4 h) (omega arith)
 
 -- ---- A slot's fields fit their types
@@ -105,14 +105,14 @@ pub slot-fits : (xs : List ℕ) → Bytes xs → (at : ℕ) → Fits (slotAt xs 
 unfolding slotAt
 slot-fits xs b at =
     record {
-      handle = word32-lt xs b at;
+      handle = low32-lt xs b at;
       kind = omega arith;
       mask = omega arith;
       table = omega arith;
-      v0 = word32-lt xs b (at + 8);
-      v1 = word32-lt xs b (at + 12);
-      v2 = word32-lt xs b (at + 16);
-      v3 = word32-lt xs b (at + 20);
+      v0 = low32-lt xs b (at + 8);
+      v1 = low32-lt xs b (at + 12);
+      v2 = low32-lt xs b (at + 16);
+      v3 = low32-lt xs b (at + 20);
     }
 
 marked-fits : {e : Slot} (w : ℕ) → Fits e → Fits (withMarks e w)
@@ -147,24 +147,24 @@ blank-fits =
 -- the word at a place was stored, and nothing else changed
 pub record PutWord (xs ys : List ℕ) (at v : ℕ) : Type 0 where
   pub frame : Frame at (at + 4) xs ys
-  pub same : word32At ys at ≡ v
+  pub same : low32At ys at ≡ v
 
-pub word-put : {xs ys : List ℕ} (at v : ℕ) → v < 4294967296 → at + 4 ≤ length xs → ys ≡ sets xs at (bytes4 v) → PutWord xs ys at v
+pub word-put : {xs ys : List ℕ} (at v : ℕ) → v < 4294967296 → at + 4 ≤ length xs → ys ≡ sets xs at (lowBytes4 v) → PutWord xs ys at v
 word-put {xs} {ys} at v small fits e =
     rw e
     (record {
       frame =
           record {
-            len = length-sets xs at (bytes4 v);
-            below = λ k h. written32-below xs at v k 0 h;
-            above = λ k h. written32-above xs at v k 0 h;
+            len = length-sets xs at (lowBytes4 v);
+            below = λ k h. written-low32-below xs at v k 0 h;
+            above = λ k h. written-low32-above xs at v k 0 h;
           };
-      same = read-written32 xs at v small fits;
+      same = read-written-low32 xs at v small fits;
     })
 
 -- the word of one of a slot's values
 module _ {xs ys : List ℕ} (at column v : ℕ) (p : PutWord xs ys (at + 8 + 4 * column) v) where
-  value-put : (k here : ℕ) → here ≡ at + 8 + 4 * k → word32At ys here ≡ (if eqb column k then v else word32At xs here)
+  value-put : (k here : ℕ) → here ≡ at + 8 + 4 * k → low32At ys here ≡ (if eqb column k then v else low32At xs here)
   value-put k here q =
       split (eqb column k)
       (λ e. rw (e, q, ← eqb-true column k e) (p .same))
@@ -220,8 +220,8 @@ module _ (at w : ℕ) (e : Slot) where
       }
 
   pub slot-put : {x0 x1 x2 x3 x4 x5 x6 : List ℕ} → Fits e → w < 4294967296 → at + 24 ≤ length x0
-      → x1 ≡ sets x0 at (bytes4 (e .handle)) → x2 ≡ sets x1 (at + 4) (bytes4 w) → x3 ≡ sets x2 (at + 8) (bytes4 (e .v0))
-      → x4 ≡ sets x3 (at + 12) (bytes4 (e .v1)) → x5 ≡ sets x4 (at + 16) (bytes4 (e .v2)) → x6 ≡ sets x5 (at + 20) (bytes4 (e .v3))
+      → x1 ≡ sets x0 at (lowBytes4 (e .handle)) → x2 ≡ sets x1 (at + 4) (lowBytes4 w) → x3 ≡ sets x2 (at + 8) (lowBytes4 (e .v0))
+      → x4 ≡ sets x3 (at + 12) (lowBytes4 (e .v1)) → x5 ≡ sets x4 (at + 16) (lowBytes4 (e .v2)) → x6 ≡ sets x5 (at + 20) (lowBytes4 (e .v3))
       → w / 16777216 % 256 ≡ e .kind → w / 65536 % 256 ≡ e .mask → w / 256 % 256 ≡ e .table → Stored x0 x6 at e
   slot-put {x0} {x1} {x2} {x3} {x4} {x5} {x6} f small fits e1 e2 e3 e4 e5 e6 hk hm ht =
       let p1 = word-put at (e .handle) (f .handle) (omega arith) e1 in
@@ -239,10 +239,10 @@ module _ (at w : ℕ) (e : Slot) where
 
 -- five words of a slot, read at a place and stored at another with a second word w
 pub slot-copied : {x0 x1 x2 x3 x4 x5 x6 : List ℕ} {h v0 v1 v2 v3 : ℕ} (from to w : ℕ) → Bytes x0 → w < 4294967296 → to + 24 ≤ length x0
-    → h ≡ word32At x0 from → v0 ≡ word32At x0 (from + 8) → v1 ≡ word32At x0 (from + 12)
-    → v2 ≡ word32At x0 (from + 16) → v3 ≡ word32At x0 (from + 20)
-    → x1 ≡ sets x0 to (bytes4 h) → x2 ≡ sets x1 (to + 4) (bytes4 w) → x3 ≡ sets x2 (to + 8) (bytes4 v0)
-    → x4 ≡ sets x3 (to + 12) (bytes4 v1) → x5 ≡ sets x4 (to + 16) (bytes4 v2) → x6 ≡ sets x5 (to + 20) (bytes4 v3)
+    → h ≡ low32At x0 from → v0 ≡ low32At x0 (from + 8) → v1 ≡ low32At x0 (from + 12)
+    → v2 ≡ low32At x0 (from + 16) → v3 ≡ low32At x0 (from + 20)
+    → x1 ≡ sets x0 to (lowBytes4 h) → x2 ≡ sets x1 (to + 4) (lowBytes4 w) → x3 ≡ sets x2 (to + 8) (lowBytes4 v0)
+    → x4 ≡ sets x3 (to + 12) (lowBytes4 v1) → x5 ≡ sets x4 (to + 16) (lowBytes4 v2) → x6 ≡ sets x5 (to + 20) (lowBytes4 v3)
     → Stored x0 x6 to (withMarks (slotAt x0 from) w)
 unfolding slotAt withMarks
 slot-copied {x0} {x1} {x2} {x3} {x4} {x5} {x6} from to w b small fits qh q0 q1 q2 q3 eh ew e0 e1 e2 e3 =
@@ -250,5 +250,5 @@ slot-copied {x0} {x1} {x2} {x3} {x4} {x5} {x6} from to w b small fits qh q0 q1 q
     (same x0 to qh eh) ew (same x2 (to + 8) q0 e0)
     (same x3 (to + 12) q1 e1) (same x4 (to + 16) q2 e2) (same x5 (to + 20) q3 e3) refl refl refl
   where
-    same : {y : List ℕ} {v w : ℕ} (x : List ℕ) (at : ℕ) → v ≡ w → y ≡ sets x at (bytes4 v) → y ≡ sets x at (bytes4 w)
-    same x at q e = e ∙ ap (λ (u : ℕ). sets x at (bytes4 u)) q
+    same : {y : List ℕ} {v w : ℕ} (x : List ℕ) (at : ℕ) → v ≡ w → y ≡ sets x at (lowBytes4 v) → y ≡ sets x at (lowBytes4 w)
+    same x at q e = e ∙ ap (λ (u : ℕ). sets x at (lowBytes4 u)) q

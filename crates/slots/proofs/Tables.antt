@@ -6,7 +6,7 @@ use mathlib.Core.List.{List, [], _∷_, _++_}
 use Prim.Native.Nat.{ℕ, zero, suc, _+_, _-_, _*_, _/_, _%_, _≤_, _<_}
 use native.Mathlib.Omega.{arith}
 use lib.ListN.{length, getD, take, drop, set, take-append-drop, List·getD-eq-default}
-use Rattle.words.specs.Words.{Bytes, word32At}
+use Rattle.words.specs.Words.{Bytes, low32At}
 use Rattle.slots.specs.declared.Slot.{Slot}
 use Rattle.slots.specs.Slots.{slotAt, slotsFrom, tableAt, tableBytes, Frame, Stands, Holds, Stored}
 use Rattle.slots.specs.Slots.{Alike, MovedUp, MovedDown, Copied, blank, valueOf, withKind, withMarks, insertAt, removeAt}
@@ -89,22 +89,22 @@ slots-put {xs} {ys} {e} at (suc n) (suc i) p h =
 
 -- ---- The table at a base
 
-pub table-length : (xs : List ℕ) (base : ℕ) → length (tableAt xs base) ≡ word32At xs base
+pub table-length : (xs : List ℕ) (base : ℕ) → length (tableAt xs base) ≡ low32At xs base
 unfolding tableAt
-table-length xs base = slots-length xs (base + 4) (word32At xs base)
+table-length xs base = slots-length xs (base + 4) (low32At xs base)
 
-pub table-get : (xs : List ℕ) (base i : ℕ) → i < word32At xs base → getD (tableAt xs base) i blank ≡ slotAt xs (base + 4 + 24 * i)
+pub table-get : (xs : List ℕ) (base i : ℕ) → i < low32At xs base → getD (tableAt xs base) i blank ≡ slotAt xs (base + 4 + 24 * i)
 unfolding tableAt
-table-get xs base i h = slots-get xs (base + 4) (word32At xs base) i h
+table-get xs base i h = slots-get xs (base + 4) (low32At xs base) i h
 
 -- a slot's handle is its first word
-pub table-handle : (xs : List ℕ) (base i : ℕ) → i < word32At xs base
-    → getD (tableAt xs base) i blank .handle ≡ word32At xs (base + 4 + 24 * i)
+pub table-handle : (xs : List ℕ) (base i : ℕ) → i < low32At xs base
+    → getD (tableAt xs base) i blank .handle ≡ low32At xs (base + 4 + 24 * i)
 unfolding slotAt
 table-handle xs base i h = ap (λ (e : Slot). e .handle) (table-get xs base i h)
 
 -- a slot's values stand in its last four words
-slot-value : (xs : List ℕ) (at column : ℕ) → column < 4 → word32At xs (at + 8 + 4 * column) ≡ valueOf (slotAt xs at) column
+slot-value : (xs : List ℕ) (at column : ℕ) → column < 4 → low32At xs (at + 8 + 4 * column) ≡ valueOf (slotAt xs at) column
 unfolding slotAt valueOf
 slot-value xs at zero h = let q : at + 8 + 4 * 0 ≡ at + 8 = omega arith in rw q
 slot-value xs at (suc zero) h = let q : at + 8 + 4 * suc zero ≡ at + 12 = omega arith in rw q
@@ -112,8 +112,8 @@ slot-value xs at (suc (suc zero)) h = let q : at + 8 + 4 * suc (suc zero) ≡ at
 slot-value xs at (suc (suc (suc zero))) h = let q : at + 8 + 4 * suc (suc (suc zero)) ≡ at + 20 = omega arith in rw q
 slot-value xs at (suc (suc (suc (suc column)))) h = absurd (omega arith)
 
-pub table-value : (xs : List ℕ) (base i column : ℕ) → i < word32At xs base → column < 4
-    → word32At xs (base + 4 + 24 * i + 8 + 4 * column) ≡ valueOf (getD (tableAt xs base) i blank) column
+pub table-value : (xs : List ℕ) (base i column : ℕ) → i < low32At xs base → column < 4
+    → low32At xs (base + 4 + 24 * i + 8 + 4 * column) ≡ valueOf (getD (tableAt xs base) i blank) column
 table-value xs base i column h b = rw (table-get xs base i h) (slot-value xs (base + 4 + 24 * i) column b)
 
 pub no-value : (e : Slot) (column : ℕ) → 4 ≤ column → 0 ≡ valueOf e column
@@ -121,7 +121,7 @@ unfolding valueOf
 no-value e column h = sym (List·getD-eq-default (e .v0 ∷ e .v1 ∷ e .v2 ∷ e .v3 ∷ []) 0 h)
 
 -- a slot with its own second word is as it is; with another top byte of that word it has another kind
-module _ (xs : List ℕ) (base i : ℕ) {w : ℕ} (h : i < word32At xs base) (is : w ≡ word32At xs (base + 4 + 24 * i + 4)) where
+module _ (xs : List ℕ) (base i : ℕ) {w : ℕ} (h : i < low32At xs base) (is : w ≡ low32At xs (base + 4 + 24 * i + 4)) where
   pub marks-same : withMarks (slotAt xs (base + 4 + 24 * i)) w ≡ getD (tableAt xs base) i blank
   unfolding slotAt withMarks
   marks-same = rw (table-get xs base i h, is)
@@ -137,19 +137,19 @@ module _ (xs : List ℕ) (base i : ℕ) {w : ℕ} (h : i < word32At xs base) (is
 
 pub table-fits : (xs : List ℕ) → Bytes xs → (base i : ℕ) → Fits (getD (tableAt xs base) i blank)
 unfolding tableAt
-table-fits xs b base i = slots-fit xs b (base + 4) (word32At xs base) i
+table-fits xs b base i = slots-fit xs b (base + 4) (low32At xs base) i
 
 -- a table outside a frame stays
 module _ {lo hi : ℕ} {xs ys : List ℕ} (f : Frame lo hi xs ys) (base most : ℕ) (s : Stands base most xs) where
   pub table-kept-below : base + tableBytes most ≤ lo → tableAt ys base ≡ tableAt xs base
   unfolding tableAt tableBytes
   table-kept-below h =
-      let small : word32At xs base ≤ most = s .size in
-      rw (word-kept-below f base (omega arith)) (slots-kept-below f (base + 4) (word32At xs base) (omega arith))
+      let small : low32At xs base ≤ most = s .size in
+      rw (word-kept-below f base (omega arith)) (slots-kept-below f (base + 4) (low32At xs base) (omega arith))
 
   pub table-kept-above : hi ≤ base → tableAt ys base ≡ tableAt xs base
   unfolding tableAt
-  table-kept-above h = rw (word-kept-above f base h) (slots-kept-above f (base + 4) (word32At xs base) (omega arith))
+  table-kept-above h = rw (word-kept-above f base h) (slots-kept-above f (base + 4) (low32At xs base) (omega arith))
 
   pub stands-kept-below : base + tableBytes most ≤ lo → Stands base most ys
   unfolding tableBytes
@@ -163,7 +163,7 @@ module _ {lo hi : ℕ} {xs ys : List ℕ} (f : Frame lo hi xs ys) (base most : �
 -- ---- Changes of a table
 
 -- the size is the length of what is held
-pub holds-size : {xs ys : List ℕ} {l : List Slot} (base most : ℕ) → Holds base most xs ys l → word32At ys base ≡ length l
+pub holds-size : {xs ys : List ℕ} {l : List Slot} (base most : ℕ) → Holds base most xs ys l → low32At ys base ≡ length l
 holds-size {xs} {ys} base most h = sym (table-length ys base) ∙ ap length (h .list)
 
 -- a change within the table first
@@ -188,20 +188,20 @@ resized {xs} {ys} {l} base most n p small fits e =
     }
 
 -- a slot that was stored in the place of another
-pub replaced : {xs ys : List ℕ} {e : Slot} (base most i : ℕ) → Stands base most xs → i < word32At xs base
+pub replaced : {xs ys : List ℕ} {e : Slot} (base most i : ℕ) → Stands base most xs → i < low32At xs base
     → Stored xs ys (base + 4 + 24 * i) e → Holds base most xs ys (set (tableAt xs base) i e)
 unfolding tableAt tableBytes
 replaced {xs} {ys} {e} base most i s h p =
-    let small : word32At xs base ≤ most = s .size in
-    let head : word32At ys base ≡ word32At xs base = word-kept-below (p .frame) base (omega arith) in
+    let small : low32At xs base ≤ most = s .size in
+    let head : low32At ys base ≡ low32At xs base = word-kept-below (p .frame) base (omega arith) in
     record {
       frame = frame-wider (p .frame) (omega arith) (omega arith);
       stands = record { fits = rw (p .frame .len) (s .fits); size = rw head small };
-      list = rw head (slots-put (base + 4) (word32At xs base) i p h);
+      list = rw head (slots-put (base + 4) (low32At xs base) i p h);
     }
 
 -- a slot that was stored after the last, and a size one higher
-pub pushed : {xs ys zs : List ℕ} {e : Slot} (base most n : ℕ) → Stands base most xs → n ≡ word32At xs base → n < most
+pub pushed : {xs ys zs : List ℕ} {e : Slot} (base most n : ℕ) → Stands base most xs → n ≡ low32At xs base → n < most
     → Stored xs ys (base + 4 + 24 * n) e → PutWord ys zs base (n + 1) → Holds base most xs zs (tableAt xs base ++ (e ∷ []))
 unfolding tableAt tableBytes
 pushed {xs} {ys} {zs} {e} base most n s q room p w =
@@ -212,7 +212,7 @@ pushed {xs} {ys} {zs} {e} base most n s q room p w =
     (slots-more ys (base + 4) n ∙ rw (slots-kept-below (p .frame) (base + 4) n (omega arith), p .same, q)))
 
 -- the slots from a place on moved up, a slot stored in the place that is free, and a size one higher
-pub inserted : {xs ys zs ws : List ℕ} {e : Slot} (base most n i : ℕ) → Stands base most xs → n ≡ word32At xs base → n < most → i ≤ n
+pub inserted : {xs ys zs ws : List ℕ} {e : Slot} (base most n i : ℕ) → Stands base most xs → n ≡ low32At xs base → n < most → i ≤ n
     → MovedUp xs ys (base + 4 + 24 * i) (24 * (n - i)) → Stored ys zs (base + 4 + 24 * i) e → PutWord zs ws base (n + 1)
     → Holds base most xs ws (insertAt i e (tableAt xs base))
 unfolding insertAt slotsFrom tableAt tableBytes
@@ -230,14 +230,14 @@ inserted {xs} {ys} {zs} {ws} {e} base most n i s q room h u p w =
     ∙ rw (one, slots-kept-below f at i (omega arith), p .same, after, ← q, slots-take xs at i n h, slots-drop xs at i n h)))
 
 -- the slots after a place moved down to it, and a size one lower
-pub removed : {xs ys zs : List ℕ} (base most n i : ℕ) → Stands base most xs → n ≡ word32At xs base → i < n
+pub removed : {xs ys zs : List ℕ} (base most n i : ℕ) → Stands base most xs → n ≡ low32At xs base → i < n
     → MovedDown xs ys (base + 4 + 24 * i) (24 * (n - 1 - i)) → PutWord ys zs base (n - 1)
     → Holds base most xs zs (removeAt i (tableAt xs base))
 unfolding removeAt tableAt tableBytes
 removed {xs} {ys} {zs} base most n i s q h u w =
     let at : ℕ = base + 4 in
     let here : ℕ = base + 4 + 24 * i in
-    let small : word32At xs base ≤ most = s .size in
+    let small : low32At xs base ≤ most = s .size in
     let f : Frame base (base + tableBytes most) xs ys = frame-wider (u .frame) (omega arith) (omega arith) in
     let less : n - suc i ≡ n - 1 - i = omega arith in
     let next : at + 24 * suc i ≡ here + 24 = omega arith in
@@ -255,7 +255,7 @@ removed {xs} {ys} {zs} base most n i s q h u w =
     )))
 
 -- the slots of a table, copied after the first ones of another, and a size that counts both
-pub tailed : {xs ys zs : List ℕ} (base most first from n : ℕ) → Stands base most xs → n ≡ word32At xs from → first ≤ word32At xs base
+pub tailed : {xs ys zs : List ℕ} (base most first from n : ℕ) → Stands base most xs → n ≡ low32At xs from → first ≤ low32At xs base
     → first + n ≤ most → Copied xs ys (from + 4) (base + 4 + 24 * first) (24 * n) → PutWord ys zs base (first + n)
     → Holds base most xs zs (take first (tableAt xs base) ++ tableAt xs from)
 unfolding tableAt tableBytes
@@ -272,5 +272,5 @@ tailed {xs} {ys} {zs} base most first from n s q h room u w =
       slots-kept-below (u .frame) at first (omega arith),
       slots-alike (from + 4) here n (u .copied),
       ← q,
-      slots-take xs at first (word32At xs base) h,
+      slots-take xs at first (low32At xs base) h,
     )))

@@ -6,7 +6,7 @@ use Prim.Native.Nat.{ℕ, zero, suc, _+_, _*_, _/_, _%_, _≤_, _<_}
 use lib.ListN.{length, getD, take, drop}
 use lib.Dec.{eqb, ltb}
 use Rattle.meaning.specs.Base.{if_then_else_}
-use Rattle.words.specs.Words.{word32At}
+use Rattle.words.specs.Words.{low32At}
 use Rattle.slots.specs.declared.Slot.{Slot}
 use Rattle.slots.specs.declared.Found.{Found}
 use Rattle.slots.specs.declared.Found.the-variants.{At, Nothing}
@@ -15,14 +15,14 @@ use Rattle.slots.specs.declared.Found.the-variants.{At, Nothing}
 unfoldable pub slotAt : List ℕ → ℕ → Slot
 slotAt xs at =
     record {
-      handle = word32At xs at;
-      kind = word32At xs (at + 4) / 16777216 % 256;
-      mask = word32At xs (at + 4) / 65536 % 256;
-      table = word32At xs (at + 4) / 256 % 256;
-      v0 = word32At xs (at + 8);
-      v1 = word32At xs (at + 12);
-      v2 = word32At xs (at + 16);
-      v3 = word32At xs (at + 20);
+      handle = low32At xs at;
+      kind = low32At xs (at + 4) / 16777216 % 256;
+      mask = low32At xs (at + 4) / 65536 % 256;
+      table = low32At xs (at + 4) / 256 % 256;
+      v0 = low32At xs (at + 8);
+      v1 = low32At xs (at + 12);
+      v2 = low32At xs (at + 16);
+      v3 = low32At xs (at + 20);
     }
 
 -- n slots from a place on
@@ -32,7 +32,7 @@ slotsFrom xs at (suc n) = slotAt xs at ∷ slotsFrom xs (at + 24) n
 
 -- the table at a base: its size, then its slots
 unfoldable pub tableAt : List ℕ → ℕ → List Slot
-tableAt xs base = slotsFrom xs (base + 4) (word32At xs base)
+tableAt xs base = slotsFrom xs (base + 4) (low32At xs base)
 
 -- the bytes of a table with room for `most` slots
 unfoldable pub tableBytes : ℕ → ℕ
@@ -47,7 +47,7 @@ pub record Frame (lo hi : ℕ) (xs ys : List ℕ) : Type 0 where
 -- a table with room for `most` slots stands at a base
 pub record Stands (base most : ℕ) (xs : List ℕ) : Type 0 where
   pub fits : base + tableBytes most ≤ length xs
-  pub size : word32At xs base ≤ most
+  pub size : low32At xs base ≤ most
 
 -- the table at a base now holds a list, and nothing else changed
 pub record Holds (base most : ℕ) (xs ys : List ℕ) (l : List Slot) : Type 0 where

@@ -5,7 +5,7 @@ ghost use mathlib.Core.Path.{_≡_};
 ghost use mathlib.Core.List.{[], _++_, _∷_};
 ghost use Prim.Native.Nat.{_+_, _*_, _/_, _%_, _≤_, _<_};
 ghost use lib.ListN.{length, getD, set, take, drop, replicate};
-ghost use Rattle.words.specs.Words.{word32At};
+ghost use Rattle.words.specs.Words.{low32At};
 ghost use Rattle.slots.specs.Slots.{slotAt, tableAt, tableBytes, valueOf, withValue, withKind, withMarks, Stands, Holds};
 ghost use Rattle.slots.specs.Slots.{Stored, MovedUp, MovedDown, Copied, Sorted, insertAt, removeAt, placeIn, hit, findIn, blank};
 
@@ -42,16 +42,16 @@ fn load(room: &[u8], at: usize) -> Slot
     requires { ⌜ at + 24 ≤ length (now room) ⌝ }
     ensures { λ r. ⌜ r ≡ slotAt (now (room .entry)) at ⌝ }
 {
-    let w = words::word32(room, at + 4);
+    let w = words::low32(room, at + 4);
     Slot {
-        handle: words::word32(room, at),
+        handle: words::low32(room, at),
         kind: (w / 16777216 % 256) as u8,
         mask: (w / 65536 % 256) as u8,
         table: (w / 256 % 256) as u8,
-        v0: words::word32(room, at + 8),
-        v1: words::word32(room, at + 12),
-        v2: words::word32(room, at + 16),
-        v3: words::word32(room, at + 20),
+        v0: words::low32(room, at + 8),
+        v1: words::low32(room, at + 12),
+        v2: words::low32(room, at + 16),
+        v3: words::low32(room, at + 20),
     }
 }
 
@@ -59,26 +59,26 @@ fn store(room: &mut [u8], at: usize, e: Slot)
     requires { ⌜ at + 24 ≤ length (now room) ⌝ }
     ensures { λ _. ⌜ Stored (now (room .entry)) (now (room .exit)) at e ⌝ }
 {
-    words::put32(room, at, e.handle);
-    words::put32(room, at + 4, joined(e.kind, e.mask, e.table));
-    words::put32(room, at + 8, e.v0);
-    words::put32(room, at + 12, e.v1);
-    words::put32(room, at + 16, e.v2);
-    words::put32(room, at + 20, e.v3);
+    words::put_low32(room, at, e.handle);
+    words::put_low32(room, at + 4, joined(e.kind, e.mask, e.table));
+    words::put_low32(room, at + 8, e.v0);
+    words::put_low32(room, at + 12, e.v1);
+    words::put_low32(room, at + 16, e.v2);
+    words::put_low32(room, at + 20, e.v3);
 }
 
 // How many slots the table at a base has.
 pub fn size(room: &[u8], base: usize) -> usize
     requires { ⌜ base + 4 ≤ length (now room) ⌝ }
-    ensures { λ r. ⌜ r ≡ word32At (now (room .entry)) base ⌝ }
+    ensures { λ r. ⌜ r ≡ low32At (now (room .entry)) base ⌝ }
 {
-    words::word32(room, base) as usize
+    words::low32(room, base) as usize
 }
 
 // The slot i of the table at a base.
 pub fn slot_at(room: &[u8], base: usize, most: usize, i: usize) -> Slot
     requires { ⌜ Stands base most (now room) ⌝ }
-    requires { ⌜ i < word32At (now room) base ⌝ }
+    requires { ⌜ i < low32At (now room) base ⌝ }
     ensures { λ r. ⌜ r ≡ getD (tableAt (now (room .entry)) base) i blank ⌝ }
 {
     load(room, base + HEAD + SLOT * i)
@@ -87,38 +87,38 @@ pub fn slot_at(room: &[u8], base: usize, most: usize, i: usize) -> Slot
 // The handle of the slot i of the table at a base, without the rest of it.
 pub fn handle_at(room: &[u8], base: usize, most: usize, i: usize) -> u32
     requires { ⌜ Stands base most (now room) ⌝ }
-    requires { ⌜ i < word32At (now room) base ⌝ }
+    requires { ⌜ i < low32At (now room) base ⌝ }
     ensures { λ r. ⌜ r ≡ getD (tableAt (now (room .entry)) base) i blank .handle ⌝ }
 {
-    words::word32(room, base + HEAD + SLOT * i)
+    words::low32(room, base + HEAD + SLOT * i)
 }
 
 // The same for its kind.
 pub fn kind_at(room: &[u8], base: usize, most: usize, i: usize) -> usize
     requires { ⌜ Stands base most (now room) ⌝ }
-    requires { ⌜ i < word32At (now room) base ⌝ }
+    requires { ⌜ i < low32At (now room) base ⌝ }
     ensures { λ r. ⌜ r ≡ getD (tableAt (now (room .entry)) base) i blank .kind ⌝ }
 {
-    (words::word32(room, base + HEAD + SLOT * i + 4) / 16777216 % 256) as usize
+    (words::low32(room, base + HEAD + SLOT * i + 4) / 16777216 % 256) as usize
 }
 
 // The same for its mask.
 pub fn mask_at(room: &[u8], base: usize, most: usize, i: usize) -> usize
     requires { ⌜ Stands base most (now room) ⌝ }
-    requires { ⌜ i < word32At (now room) base ⌝ }
+    requires { ⌜ i < low32At (now room) base ⌝ }
     ensures { λ r. ⌜ r ≡ getD (tableAt (now (room .entry)) base) i blank .mask ⌝ }
 {
-    (words::word32(room, base + HEAD + SLOT * i + 4) / 65536 % 256) as usize
+    (words::low32(room, base + HEAD + SLOT * i + 4) / 65536 % 256) as usize
 }
 
 // The same for its value in a column; past the last column it is 0.
 pub fn value_at(room: &[u8], base: usize, most: usize, i: usize, column: usize) -> u32
     requires { ⌜ Stands base most (now room) ⌝ }
-    requires { ⌜ i < word32At (now room) base ⌝ }
+    requires { ⌜ i < low32At (now room) base ⌝ }
     ensures { λ r. ⌜ r ≡ valueOf (getD (tableAt (now (room .entry)) base) i blank) column ⌝ }
 {
     if column < 4 {
-        return words::word32(room, base + HEAD + SLOT * i + 8 + 4 * column);
+        return words::low32(room, base + HEAD + SLOT * i + 8 + 4 * column);
     }
     0
 }
@@ -126,10 +126,10 @@ pub fn value_at(room: &[u8], base: usize, most: usize, i: usize, column: usize) 
 // The same for its field `table`.
 pub fn table_at(room: &[u8], base: usize, most: usize, i: usize) -> usize
     requires { ⌜ Stands base most (now room) ⌝ }
-    requires { ⌜ i < word32At (now room) base ⌝ }
+    requires { ⌜ i < low32At (now room) base ⌝ }
     ensures { λ r. ⌜ r ≡ getD (tableAt (now (room .entry)) base) i blank .table ⌝ }
 {
-    (words::word32(room, base + HEAD + SLOT * i + 4) / 256 % 256) as usize
+    (words::low32(room, base + HEAD + SLOT * i + 4) / 256 % 256) as usize
 }
 
 // How many slots at the front of a table by rising handle have a handle below another: by halving.
@@ -142,7 +142,7 @@ pub fn place(room: &[u8], base: usize, most: usize, handle: u32) -> usize
     let mut hi = size(room, base);
     while lo < hi {
         let mid = lo + (hi - lo) / 2;
-        if words::word32(room, base + HEAD + SLOT * mid) < handle {
+        if words::low32(room, base + HEAD + SLOT * mid) < handle {
             lo = mid + 1;
         } else {
             hi = mid;
@@ -157,7 +157,7 @@ pub fn is_at(room: &[u8], base: usize, most: usize, i: usize, handle: u32) -> bo
     ensures { λ r. ⌜ r ≡ hit handle i (tableAt (now (room .entry)) base) ⌝ }
 {
     if i < size(room, base) {
-        return words::word32(room, base + HEAD + SLOT * i) == handle;
+        return words::low32(room, base + HEAD + SLOT * i) == handle;
     }
     false
 }
@@ -170,7 +170,7 @@ pub fn find(room: &[u8], base: usize, most: usize, handle: u32) -> Found
 {
     let i = place(room, base, most, handle);
     if i < size(room, base) {
-        if words::word32(room, base + HEAD + SLOT * i) == handle {
+        if words::low32(room, base + HEAD + SLOT * i) == handle {
             return Found::At(i);
         }
     }
@@ -211,7 +211,7 @@ pub fn find_near(room: &[u8], base: usize, most: usize, near: usize, handle: u32
 // A slot in the place of another.
 pub fn put_at(room: &mut [u8], base: usize, most: usize, i: usize, e: Slot)
     requires { ⌜ Stands base most (now room) ⌝ }
-    requires { ⌜ i < word32At (now room) base ⌝ }
+    requires { ⌜ i < low32At (now room) base ⌝ }
     ensures { λ _. ⌜ Holds base most (now (room .entry)) (now (room .exit)) (set (tableAt (now (room .entry)) base) i e) ⌝ }
 {
     store(room, base + HEAD + SLOT * i, e);
@@ -244,49 +244,49 @@ fn move_down(room: &mut [u8], at: usize, n: usize)
 // A slot more at a place; those from there on move up.
 pub fn insert_at(room: &mut [u8], base: usize, most: usize, i: usize, e: Slot)
     requires { ⌜ Stands base most (now room) ⌝ }
-    requires { ⌜ word32At (now room) base < most ⌝ }
+    requires { ⌜ low32At (now room) base < most ⌝ }
     requires { ⌜ most < 4294967296 ⌝ }
-    requires { ⌜ i ≤ word32At (now room) base ⌝ }
+    requires { ⌜ i ≤ low32At (now room) base ⌝ }
     ensures { λ _. ⌜ Holds base most (now (room .entry)) (now (room .exit)) (insertAt i e (tableAt (now (room .entry)) base)) ⌝ }
 {
     let n = size(room, base);
     move_up(room, base + HEAD + SLOT * i, SLOT * (n - i));
     store(room, base + HEAD + SLOT * i, e);
-    words::put32(room, base, (n + 1) as u32);
+    words::put_low32(room, base, (n + 1) as u32);
 }
 
 // The slot at a place goes; those after it move down.
 pub fn remove_at(room: &mut [u8], base: usize, most: usize, i: usize)
     requires { ⌜ Stands base most (now room) ⌝ }
-    requires { ⌜ i < word32At (now room) base ⌝ }
+    requires { ⌜ i < low32At (now room) base ⌝ }
     ensures { λ _. ⌜ Holds base most (now (room .entry)) (now (room .exit)) (removeAt i (tableAt (now (room .entry)) base)) ⌝ }
 {
     let n = size(room, base);
     move_down(room, base + HEAD + SLOT * i, SLOT * (n - 1 - i));
-    words::put32(room, base, (n - 1) as u32);
+    words::put_low32(room, base, (n - 1) as u32);
 }
 
 // A slot more at the end.
 pub fn push(room: &mut [u8], base: usize, most: usize, e: Slot)
     requires { ⌜ Stands base most (now room) ⌝ }
-    requires { ⌜ word32At (now room) base < most ⌝ }
+    requires { ⌜ low32At (now room) base < most ⌝ }
     requires { ⌜ most < 4294967296 ⌝ }
     ensures { λ _. ⌜ Holds base most (now (room .entry)) (now (room .exit)) (tableAt (now (room .entry)) base ++ (e ∷ [])) ⌝ }
 {
     let end = size(room, base);
     store(room, base + HEAD + SLOT * end, e);
-    words::put32(room, base, (end + 1) as u32);
+    words::put_low32(room, base, (end + 1) as u32);
 }
 
 // Another value in a column 0..3 of the slot i.
 pub fn put_value(room: &mut [u8], base: usize, most: usize, i: usize, column: usize, v: u32)
     requires { ⌜ Stands base most (now room) ⌝ }
-    requires { ⌜ i < word32At (now room) base ⌝ }
+    requires { ⌜ i < low32At (now room) base ⌝ }
     requires { ⌜ column < 4 ⌝ }
     ensures { λ _. ⌜ Holds base most (now (room .entry)) (now (room .exit))
         (set (tableAt (now (room .entry)) base) i (withValue (getD (tableAt (now (room .entry)) base) i blank) column v)) ⌝ }
 {
-    words::put32(room, base + HEAD + SLOT * i + 8 + 4 * column, v);
+    words::put_low32(room, base + HEAD + SLOT * i + 8 + 4 * column, v);
 }
 
 // The 24 bytes of a slot at another place, with other marks: kind, mask and table in one word.
@@ -295,51 +295,51 @@ fn copy(room: &mut [u8], from: usize, to: usize, marks: u32)
     requires { ⌜ to + 24 ≤ length (now room) ⌝ }
     ensures { λ _. ⌜ Stored (now (room .entry)) (now (room .exit)) to (withMarks (slotAt (now (room .entry)) from) marks) ⌝ }
 {
-    let handle = words::word32(room, from);
-    let v0 = words::word32(room, from + 8);
-    let v1 = words::word32(room, from + 12);
-    let v2 = words::word32(room, from + 16);
-    let v3 = words::word32(room, from + 20);
-    words::put32(room, to, handle);
-    words::put32(room, to + 4, marks);
-    words::put32(room, to + 8, v0);
-    words::put32(room, to + 12, v1);
-    words::put32(room, to + 16, v2);
-    words::put32(room, to + 20, v3);
+    let handle = words::low32(room, from);
+    let v0 = words::low32(room, from + 8);
+    let v1 = words::low32(room, from + 12);
+    let v2 = words::low32(room, from + 16);
+    let v3 = words::low32(room, from + 20);
+    words::put_low32(room, to, handle);
+    words::put_low32(room, to + 4, marks);
+    words::put_low32(room, to + 8, v0);
+    words::put_low32(room, to + 12, v1);
+    words::put_low32(room, to + 16, v2);
+    words::put_low32(room, to + 20, v3);
 }
 
 // The slot i of the table at `from` once more, at the end of another table.
 pub fn push_from(room: &mut [u8], base: usize, most: usize, from: usize, held: usize, i: usize)
     requires { ⌜ Stands base most (now room) ⌝ }
-    requires { ⌜ word32At (now room) base < most ⌝ }
+    requires { ⌜ low32At (now room) base < most ⌝ }
     requires { ⌜ most < 4294967296 ⌝ }
     requires { ⌜ Stands from held (now room) ⌝ }
-    requires { ⌜ i < word32At (now room) from ⌝ }
+    requires { ⌜ i < low32At (now room) from ⌝ }
     ensures { λ _. ⌜ Holds base most (now (room .entry)) (now (room .exit))
         (tableAt (now (room .entry)) base ++ (getD (tableAt (now (room .entry)) from) i blank ∷ [])) ⌝ }
 {
     let end = size(room, base);
     let at = from + HEAD + SLOT * i;
-    let marks = words::word32(room, at + 4);
+    let marks = words::low32(room, at + 4);
     copy(room, at, base + HEAD + SLOT * end, marks);
-    words::put32(room, base, (end + 1) as u32);
+    words::put_low32(room, base, (end + 1) as u32);
 }
 
 // The same, with the slot's place in `from` as its kind.
 pub fn push_place(room: &mut [u8], base: usize, most: usize, from: usize, held: usize, i: usize)
     requires { ⌜ Stands base most (now room) ⌝ }
-    requires { ⌜ word32At (now room) base < most ⌝ }
+    requires { ⌜ low32At (now room) base < most ⌝ }
     requires { ⌜ most < 4294967296 ⌝ }
     requires { ⌜ Stands from held (now room) ⌝ }
-    requires { ⌜ i < word32At (now room) from ⌝ }
+    requires { ⌜ i < low32At (now room) from ⌝ }
     ensures { λ _. ⌜ Holds base most (now (room .entry)) (now (room .exit))
         (tableAt (now (room .entry)) base ++ (withKind (getD (tableAt (now (room .entry)) from) i blank) (i % 256) ∷ [])) ⌝ }
 {
     let end = size(room, base);
     let at = from + HEAD + SLOT * i;
-    let marks = words::word32(room, at + 4) % 16777216 + (i % 256) as u32 * 16777216;
+    let marks = words::low32(room, at + 4) % 16777216 + (i % 256) as u32 * 16777216;
     copy(room, at, base + HEAD + SLOT * end, marks);
-    words::put32(room, base, (end + 1) as u32);
+    words::put_low32(room, base, (end + 1) as u32);
 }
 
 // The n bytes from a place on once more, at a place after them all. Bytes, so that the compiler moves many at a time.
@@ -361,14 +361,14 @@ pub fn put_tail(room: &mut [u8], base: usize, most: usize, first: usize, from: u
     requires { ⌜ most < 4294967296 ⌝ }
     requires { ⌜ Stands from held (now room) ⌝ }
     requires { ⌜ from + tableBytes held ≤ base ⌝ }
-    requires { ⌜ first ≤ word32At (now room) base ⌝ }
-    requires { ⌜ first + word32At (now room) from ≤ most ⌝ }
+    requires { ⌜ first ≤ low32At (now room) base ⌝ }
+    requires { ⌜ first + low32At (now room) from ≤ most ⌝ }
     ensures { λ _. ⌜ Holds base most (now (room .entry)) (now (room .exit))
         (take first (tableAt (now (room .entry)) base) ++ tableAt (now (room .entry)) from) ⌝ }
 {
     let n = size(room, from);
     copy_bytes(room, from + HEAD, base + HEAD + SLOT * first, SLOT * n);
-    words::put32(room, base, (first + n) as u32);
+    words::put_low32(room, base, (first + n) as u32);
 }
 
 // The table has no slot any more.
@@ -376,7 +376,7 @@ pub fn empty(room: &mut [u8], base: usize, most: usize)
     requires { ⌜ base + tableBytes most ≤ length (now room) ⌝ }
     ensures { λ _. ⌜ Holds base most (now (room .entry)) (now (room .exit)) [] ⌝ }
 {
-    words::put32(room, base, 0);
+    words::put_low32(room, base, 0);
 }
 
 // The first n bytes are zero.

@@ -19,7 +19,7 @@ use Rattle.meaning.specs.EntryPoints.{handedBack}
 use Rattle.meaning.specs.Processing.{Ending}
 use Rattle.meaning.proofs.RoundTrip.{image-sound, round-trip}
 use Rattle.meaning.proofs.WrittenRead.{image-fits}
-use Rattle.words.specs.Words.{Bytes, word32At}
+use Rattle.words.specs.Words.{Bytes, low32At}
 use Rattle.slots.specs.Slots.{Stands}
 use Rattle.room.specs.Room.{NEXT, LIVE, END, ROWS, Kept, liveRows}
 use Rattle.room.specs.Joins as Joins
@@ -56,7 +56,7 @@ cleared-rest k n h e = e ∙ rw (rest-kept k n h, length-replicate {A = ℕ} n 0
 
 -- for an ending whose image stands in the room, the bytes of the image that the specification hands back
 handed-meant : (o : Outcome) (image ys : List ℕ) (start : Image) (e : Ending) → outcomeMeant o ≡ e .outcome
-    → word32At ys NEXT ≡ e .image .next → liveRows ys ≡ e .image .rows → imageBytes start ≡ image
+    → low32At ys NEXT ≡ e .image .next → liveRows ys ≡ e .image .rows → imageBytes start ≡ image
     → handed (committed o) image ys ≡ imageBytes (handedBack (e .outcome) start (e .image))
 unfolding committed handed handedBack
 handed-meant Commit image ys start e is next rows given = rw (← is, next, rows)

@@ -13,7 +13,7 @@ use lib.Seq.{drop-cons}
 use Rattle.meaning.specs.Base.{before, gather}
 use Rattle.meaning.specs.Covers.{Row, Rule}
 use Rattle.meaning.specs.Processing.TransitionTables.{Transition, transition, insertedRow, deletedRow, newRow, oldRow}
-use Rattle.words.specs.Words.{word32At}
+use Rattle.words.specs.Words.{low32At}
 use Rattle.words.proofs.Laws.{split}
 use Rattle.slots.specs.declared.Slot.{Slot}
 use Rattle.slots.specs.Slots.{tableAt, tableBytes, Frame, Stands, Holds, Sorted, blank}
@@ -175,7 +175,7 @@ same-tables a b c d = λ i. record { insertedRows = a i; deletedRows = b i; newU
 -- the loop: `left` of the n effects that wait for rule k in x0 are to be shown
 pub record Drawing (rule : Rule) (k : ℕ) (x0 x : List ℕ) (n left : ℕ) : Type 0 where
   pub begun : Begun rule k x0
-  pub size : n ≡ word32At x0 (waitAt k)
+  pub size : n ≡ low32At x0 (waitAt k)
   pub most : left ≤ n
   pub frame : Frame INSERTED CHOSEN x0 x
   pub inserted : Part (insertedOf rule (liveRows x0)) INSERTED (tableAt x0 (waitAt k)) x (n - left)
@@ -184,7 +184,7 @@ pub record Drawing (rule : Rule) (k : ℕ) (x0 x : List ℕ) (n left : ℕ) : Ty
   pub old : Part (oldOf rule (liveRows x0)) OLD (tableAt x0 (waitAt k)) x (n - left)
 
 pub draw-start : {rule : Rule} {xs x : List ℕ} (k n : ℕ) → Laid xs → k < 16 → Sorted (tableAt xs LIVE) → Few (drawnFor xs k rule)
-    → Emptied xs x → n ≡ word32At x (waitAt k) → Drawing rule k x x n n
+    → Emptied xs x → n ≡ low32At x (waitAt k) → Drawing rule k x x n n
 draw-start k n w h s few b q =
     let none : n - n ≡ 0 = omega arith in
     record {
@@ -213,7 +213,7 @@ module _ {rule : Rule} {x0 x : List ℕ} (k n left : ℕ) (d : Drawing rule k x0
   draw-wait = draw-laid .waits k (d .begun .within)
 
   module _ (more : 0 < left) where
-    pub draw-within : n - left < word32At x (waitAt k)
+    pub draw-within : n - left < low32At x (waitAt k)
     draw-within = omega (arith, word-kept-above (d .frame) (waitAt k) (omega arith), d .size, d .most)
 
     was : slotIn x (waitAt k) (n - left) ≡ slotIn x0 (waitAt k) (n - left)

@@ -13,7 +13,7 @@ use Rattle.meaning.specs.Base.{before}
 use Rattle.meaning.specs.Covers.{Row, Rule}
 use Rattle.meaning.specs.RowOperations.{inserted, deleted, updated, nothing}
 use Rattle.meaning.specs.Processing.TransitionTables.{meets, ownTable, ownRow, liveRow, insertedRow, deletedRow, newRow, oldRow}
-use Rattle.words.specs.Words.{word32At}
+use Rattle.words.specs.Words.{low32At}
 use Rattle.slots.specs.declared.Slot.{Slot}
 use Rattle.slots.specs.Slots.{tableAt, tableBytes, Frame, Stands, Holds}
 use Rattle.slots.proofs.Frames.{frame-refl, frame-wider, frame-join, word-kept-below}
@@ -50,8 +50,8 @@ module _ (rule : Watch) (e : Slot) where
   own-no n = rw (ne-eqb (e .table) (rule .table) n)
 
   module _ {base : ℕ} {xs : List ℕ} where
-    pub own-spare : e .table ≡ rule .table → RoomFor base xs (ownRow (watchRule rule) (rowMeant e)) → word32At xs base < ROWS
-    own-spare q w = let h : word32At xs base + 1 ≤ ROWS = rw (own-yes q) at (w .spare) in omega arith
+    pub own-spare : e .table ≡ rule .table → RoomFor base xs (ownRow (watchRule rule) (rowMeant e)) → low32At xs base < ROWS
+    own-spare q w = let h : low32At xs base + 1 ≤ ROWS = rw (own-yes q) at (w .spare) in omega arith
 
     pub own-added : {ys : List ℕ} → e .table ≡ rule .table → Holds base ROWS xs ys (tableAt xs base ++ (e ∷ []))
         → Added base xs ys (ownRow (watchRule rule) (rowMeant e))

@@ -8,7 +8,7 @@ use native.Mathlib.Omega.{arith}
 use lib.ListN.{getD}
 use Rattle.meaning.specs.Covers.{Rule}
 use Rattle.meaning.specs.Processing.TransitionTables.{ownRow, liveRow}
-use Rattle.words.specs.Words.{word32At}
+use Rattle.words.specs.Words.{low32At}
 use Rattle.slots.specs.declared.Found.the-variants.{At, Nothing}
 use Rattle.slots.specs.Slots.{tableAt, tableBytes, Frame, Stands, blank, findIn, Sorted}
 use Rattle.slots.proofs.Tables.{table-length, table-kept-below, stands-kept-below}
@@ -17,7 +17,7 @@ use Rattle.room.specs.Room.{LIVE, INSERTED, ROWS, rowMeant, rowsMeant, liveRows
 use Rattle.room.proofs.Live.{rowAt-found, rowAt-nowhere}
 use Rattle.transition.specs.Shown.{Live}
 
-pub live-below : (xs : List ℕ) (h : ℕ) {i : ℕ} → findIn h (tableAt xs LIVE) ≡ At i → i < word32At xs LIVE
+pub live-below : (xs : List ℕ) (h : ℕ) {i : ℕ} → findIn h (tableAt xs LIVE) ≡ At i → i < low32At xs LIVE
 live-below xs h f = omega (arith, find-at h (tableAt xs LIVE) f .0, table-length xs LIVE)
 
 module _ (rule : Rule) (xs : List ℕ) (h : ℕ) (s : Sorted (tableAt xs LIVE)) where

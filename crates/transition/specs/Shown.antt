@@ -7,7 +7,7 @@ use lib.ListN.{length, getD}
 use Rattle.meaning.specs.Base.{before}
 use Rattle.meaning.specs.Covers.{Row, Rule}
 use Rattle.meaning.specs.Processing.TransitionTables.{ownRow, insertedRow, deletedRow, newRow, oldRow}
-use Rattle.words.specs.Words.{word32At}
+use Rattle.words.specs.Words.{low32At}
 use Rattle.slots.specs.declared.Slot.{Slot}
 use Rattle.slots.specs.Slots.{tableAt, tableBytes, Frame, Stands, Sorted, blank}
 use Rattle.room.specs.Room.{LIVE, INSERTED, DELETED, NEW, OLD, CHOSEN, ROWS, rowMeant, rowsMeant, effectMeant, liveRows}
@@ -25,7 +25,7 @@ ownIn rule xs base i = ownRow rule (rowMeant (slotIn xs base i))
 -- the table at a base has room for a row more, if there is one
 pub record RoomFor (base : ℕ) (xs : List ℕ) (o : Option Row) : Type 0 where
   pub stands : Stands base ROWS xs
-  pub spare : word32At xs base + length (before o []) ≤ ROWS
+  pub spare : low32At xs base + length (before o []) ≤ ROWS
 
 -- the table at a base has a row more at its end, if there is one
 pub record Grown (base : ℕ) (xs ys : List ℕ) (o : Option Row) : Type 0 where

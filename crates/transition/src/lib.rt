@@ -4,7 +4,7 @@ ghost use mathlib.Core.Path.{_≡_};
 ghost use Prim.Native.Nat.{_≤_, _<_};
 ghost use lib.ListN.{length};
 ghost use Rattle.meaning.specs.Processing.TransitionTables.{liveRow};
-ghost use Rattle.words.specs.Words.{word32At};
+ghost use Rattle.words.specs.Words.{low32At};
 ghost use Rattle.slots.specs.Slots.{tableAt, Stands, Sorted};
 ghost use Rattle.room.specs.Room.{LIVE, END, ENTRIES, Laid, watchRule, liveRows};
 ghost use Rattle.room.specs.Drawn.{drawnFor, Few, Drew};
@@ -30,7 +30,7 @@ fn draw_live(room: &mut [u8], base: usize, near: usize, rule: Watch, handle: u32
 // The row that slot i of a table holds, if it is of the rule's own table, joins a transition table.
 fn draw_held(room: &mut [u8], base: usize, rule: Watch, from: usize, most: usize, i: usize)
     requires { ⌜ Stands from most (now room) ⌝ }
-    requires { ⌜ i < word32At (now room) from ⌝ }
+    requires { ⌜ i < low32At (now room) from ⌝ }
     requires { ⌜ RoomFor base (now room) (ownIn (watchRule rule) (now room) from i) ⌝ }
     ensures { λ _. ⌜ Added base (now (room .entry)) (now (room .exit)) (ownIn (watchRule rule) (now (room .entry)) from i) ⌝ }
 {
@@ -42,7 +42,7 @@ fn draw_held(room: &mut [u8], base: usize, rule: Watch, from: usize, most: usize
 // What an updated row shows, if a column that the rule looks at was named: its values now, and those of before.
 fn draw_updated(room: &mut [u8], near: usize, rule: Watch, wait: usize, i: usize) -> usize
     requires { ⌜ Stands wait ENTRIES (now room) ⌝ }
-    requires { ⌜ i < word32At (now room) wait ⌝ }
+    requires { ⌜ i < low32At (now room) wait ⌝ }
     requires { ⌜ slotIn (now room) wait i .kind ≡ 3 ⌝ }
     requires { ⌜ Live (now room) ⌝ }
     requires { ⌜ Ready (watchRule rule) (slotIn (now room) wait i) (now room) ⌝ }
@@ -59,7 +59,7 @@ fn draw_updated(room: &mut [u8], near: usize, rule: Watch, wait: usize, i: usize
 // What effect i of a table of what waits shows in the transition tables.
 fn draw_one(room: &mut [u8], near: usize, rule: Watch, wait: usize, i: usize) -> usize
     requires { ⌜ Stands wait ENTRIES (now room) ⌝ }
-    requires { ⌜ i < word32At (now room) wait ⌝ }
+    requires { ⌜ i < low32At (now room) wait ⌝ }
     requires { ⌜ Live (now room) ⌝ }
     requires { ⌜ Ready (watchRule rule) (slotIn (now room) wait i) (now room) ⌝ }
     ensures { λ _. ⌜ Shown (watchRule rule) (slotIn (now (room .entry)) wait i) (now (room .entry)) (now (room .exit)) ⌝ }

@@ -18,7 +18,7 @@ use Rattle.meaning.specs.Values.{signed}
 use Rattle.meaning.proofs.Lists.{Each, noElement, anElement}
 use Rattle.meaning.proofs.Parsing.{on-from-got, same-value, same-place}
 use Rattle.meaning.proofs.RunsFit.{Gives}
-use Rattle.words.specs.Words.{Bytes, word16At, word32At, endOf, andMore, readable}
+use Rattle.words.specs.Words.{Bytes, word16At, word32At, low32At, lowBytes4, endOf, andMore, readable}
 use Rattle.words.specs.declared.End.{End}
 use Rattle.words.specs.declared.End.the-variants.{At, Short}
 
@@ -86,6 +86,10 @@ module _ (s : List ℕ) (b : Bytes s) (at : ℕ) where
   pub word32-lt : word32At s at < 4294967296
   unfolding word32At
   word32-lt = omega (arith, b at, b (at + 1), b (at + 2), b (at + 3))
+
+  pub low32-lt : low32At s at < 4294967296
+  unfolding low32At
+  low32-lt = omega (arith, b at, b (at + 1), b (at + 2), b (at + 3))
 
   pub number16-read : at + 2 ≤ length s → number16 s at ≡ got (word16At s at) (at + 2)
   unfolding number16 word16At
@@ -369,12 +373,28 @@ module _ (xs : List ℕ) (at v : ℕ) where
         sets-within w xs at 3 0 (omega arith) fits,
       )
 
+  pub read-written-low32 : v < 4294967296 → at + 4 ≤ length xs → low32At (sets xs at (lowBytes4 v)) at ≡ v
+  unfolding low32At lowBytes4
+  read-written-low32 small fits =
+      let w = lowBytes4 v in
+      let top : v / 16777216 % 256 ≡ v / 16777216 = omega arith in
+      let first : getD (sets xs at w) at 0 ≡ v % 256 = rw add-zero at (sets-within w xs at 0 0 (omega arith) fits) in
+      let last : getD (sets xs at w) (at + 3) 0 ≡ v / 16777216 = sets-within w xs at 3 0 (omega arith) fits ∙ top in
+      omega (arith, sets-within w xs at 1 0 (omega arith) fits, sets-within w xs at 2 0 (omega arith) fits)
+
   pub written16-below : (j d : ℕ) → j < at → getD (sets xs at (bytes2 v)) j d ≡ getD xs j d
   written16-below j d h = sets-below (bytes2 v) xs at j d h
 
   pub written16-above : (j d : ℕ) → at + 2 ≤ j → getD (sets xs at (bytes2 v)) j d ≡ getD xs j d
   unfolding bytes2
   written16-above j d h = sets-above (bytes2 v) xs at j d h
+
+  pub written-low32-below : (j d : ℕ) → j < at → getD (sets xs at (lowBytes4 v)) j d ≡ getD xs j d
+  written-low32-below j d h = sets-below (lowBytes4 v) xs at j d h
+
+  pub written-low32-above : (j d : ℕ) → at + 4 ≤ j → getD (sets xs at (lowBytes4 v)) j d ≡ getD xs j d
+  unfolding lowBytes4
+  written-low32-above j d h = sets-above (lowBytes4 v) xs at j d h
 
   pub written32-below : (j d : ℕ) → j < at → getD (sets xs at (bytes4 v)) j d ≡ getD xs j d
   written32-below j d h = sets-below (bytes4 v) xs at j d h

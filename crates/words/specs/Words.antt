@@ -2,7 +2,7 @@
 use mathlib.Core.Path.{_≡_}
 use mathlib.Core.List.{List, [], _∷_}
 use mathlib.Core.Option.{Option, none, some}
-use Prim.Native.Nat.{ℕ, zero, suc, _+_, _*_, _/_, _<_}
+use Prim.Native.Nat.{ℕ, zero, suc, _+_, _*_, _/_, _%_, _<_}
 use lib.IntN.{ℤ}
 use lib.ListN.{length, getD}
 use Rattle.meaning.specs.Reading.{byteAt, Read, bad, got, Parser}
@@ -22,6 +22,14 @@ word16At s at = getD s at 0 * 256 + getD s (at + 1) 0
 
 unfoldable pub word32At : List ℕ → ℕ → ℕ
 word32At s at = getD s at 0 * 16777216 + getD s (at + 1) 0 * 65536 + getD s (at + 2) 0 * 256 + getD s (at + 3) 0
+
+-- The number of four bytes, the low byte first, and the bytes of one: the words of the working room, which only the engine reads. On the
+-- machines that it is built for, such a word is loaded and stored at once.
+unfoldable pub low32At : List ℕ → ℕ → ℕ
+low32At s at = getD s (at + 3) 0 * 16777216 + getD s (at + 2) 0 * 65536 + getD s (at + 1) 0 * 256 + getD s at 0
+
+unfoldable pub lowBytes4 : ℕ → List ℕ
+lowBytes4 n = n % 256 ∷ n / 256 % 256 ∷ n / 65536 % 256 ∷ n / 16777216 % 256 ∷ []
 
 -- A look at a place: the byte, or 256 past the end. The second part says, in words of arithmetic, that a byte below 256 stands in the
 -- slice.

@@ -12,7 +12,7 @@ ghost use Rattle.meaning.specs.Base.{bit};
 ghost use Rattle.meaning.specs.ByteLayouts.{bytes2, bytes4, comparison};
 ghost use Rattle.meaning.specs.Values.{signed};
 ghost use Rattle.meaning.specs.Values.{agree as Values·agree, compare as Values·compare, plus as Values·plus};
-ghost use Rattle.words.specs.Words.{word16At, word32At, Looked, sumMeant};
+ghost use Rattle.words.specs.Words.{word16At, word32At, low32At, lowBytes4, Looked, sumMeant};
 
 // The word of a sum, or that it leaves 32 bits.
 pub enum Sum {
@@ -92,6 +92,24 @@ pub fn put32(s: &mut [u8], at: usize, v: u32)
     s[at + 1] = (v / 65536 % 256) as u8;
     s[at + 2] = (v / 256 % 256) as u8;
     s[at + 3] = (v % 256) as u8;
+}
+
+// The same two with the low byte first: the words of the working room.
+pub fn low32(s: &[u8], at: usize) -> u32
+    requires { ⌜ at + 4 ≤ length (now s) ⌝ }
+    ensures { λ r. ⌜ r ≡ low32At (now (s .entry)) at ⌝ }
+{
+    join4(s[at + 3], s[at + 2], s[at + 1], s[at])
+}
+
+pub fn put_low32(s: &mut [u8], at: usize, v: u32)
+    requires { ⌜ at + 4 ≤ length (now s) ⌝ }
+    ensures { λ _. ⌜ now (s .exit) ≡ sets (now (s .entry)) at (lowBytes4 v) ⌝ }
+{
+    s[at] = (v % 256) as u8;
+    s[at + 1] = (v / 256 % 256) as u8;
+    s[at + 2] = (v / 65536 % 256) as u8;
+    s[at + 3] = (v / 16777216 % 256) as u8;
 }
 
 // Bit k of a mask, as 0 or 1.

@@ -16,7 +16,7 @@ use Rattle.meaning.specs.Reading.{bad, got}
 use Rattle.meaning.specs.Values.{signed}
 use Rattle.meaning.specs.ByteLayouts.{expression}
 use Rattle.meaning.specs.Processing.Queries.{workOut}
-use Rattle.words.specs.Words.{word32At, readable}
+use Rattle.words.specs.Words.{low32At, readable}
 use Rattle.slots.specs.declared.Slot.{Slot}
 use Rattle.slots.specs.Slots.{tableAt, tableBytes, Stands, Holds, blank, withValue}
 use Rattle.slots.proofs.Frames.{frame-refl, frame-trans, word-kept-below}
@@ -51,13 +51,13 @@ module _ {x0 x : List ℕ} {i : ℕ} (c : Changed x0 x i) where
   unfolding tableBytes
   changed-chosen = table-kept-below (c .works .frame) CHOSEN ROWS (c .ready .chosen) (omega arith)
 
-  pub changed-below : i < word32At x CHOSEN
+  pub changed-below : i < low32At x CHOSEN
   changed-below = rw (word-kept-below (c .works .frame) CHOSEN (omega arith)) (c .ready .below)
 
-  changed-size : length (tableAt x WORKED) ≡ word32At x0 WORKED
+  changed-size : length (tableAt x WORKED) ≡ low32At x0 WORKED
   changed-size = rw (c .others) (length-set (tableAt x0 WORKED) i (getD (tableAt x WORKED) i blank) ∙ table-length x0 WORKED)
 
-  pub changed-within : i < word32At x WORKED
+  pub changed-within : i < low32At x WORKED
   changed-within = omega (arith, c .ready .within, changed-size, table-length x WORKED)
 
   -- worked row i in the place of what it was

@@ -13,7 +13,7 @@ use Rattle.meaning.specs.Base.{maybe, both, eachOr}
 use Rattle.meaning.specs.Covers.{Row, Expression}
 use Rattle.meaning.specs.Processing.Queries.{workOutAll}
 use Rattle.meaning.specs.Processing.Actions.{updatedRow}
-use Rattle.words.specs.Words.{word32At}
+use Rattle.words.specs.Words.{low32At}
 use Rattle.slots.specs.declared.Slot.{Slot}
 use Rattle.slots.specs.Slots.{tableAt, tableBytes, Frame, Stands, Holds, blank}
 use Rattle.slots.proofs.Frames.{frame-refl, frame-trans}
@@ -98,7 +98,7 @@ module _ {xs x0 : List ℕ} (laid : Laid xs) (h : Holds WORKED ROWS xs x0 []) wh
   unfolding tableBytes
   chosen-kept = table-kept-below (h .frame) CHOSEN ROWS (laid .chosen) (omega arith)
 
-  pub room-for-one : word32At x0 WORKED < ROWS
+  pub room-for-one : low32At x0 WORKED < ROWS
   room-for-one = omega (arith, table-length x0 WORKED, ap length (h .list))
 
   -- one row that is pushed there
@@ -111,7 +111,7 @@ module _ {xs x0 : List ℕ} (laid : Laid xs) (h : Holds WORKED ROWS xs x0 []) wh
       }
 
   module _ (es : List Expression) (mask : ℕ) where
-    pub turning-start : {n : ℕ} → n ≡ word32At x0 CHOSEN → Turning x0 x0 es mask n n
+    pub turning-start : {n : ℕ} → n ≡ low32At x0 CHOSEN → Turning x0 x0 es mask n n
     unfolding rowsMeant
     turning-start {n} m =
         let none : tableAt x0 WORKED ≡ [] = h .list in
@@ -164,10 +164,10 @@ module _ {x0 x : List ℕ} {es : List Expression} {mask n left : ℕ} (t : Turni
   unfolding tableBytes
   turning-stands = stands-kept-below (t .frame) CHOSEN ROWS (t .chosen) (omega arith)
 
-  pub turning-sized : n ≡ word32At x CHOSEN
+  pub turning-sized : n ≡ low32At x CHOSEN
   turning-sized = t .size ∙ ap length (sym table-kept) ∙ table-length x CHOSEN
 
-  pub turning-room : 0 < left → word32At x WORKED < ROWS
+  pub turning-room : 0 < left → low32At x WORKED < ROWS
   turning-room more = omega (arith, t .sofar, table-length x WORKED, turning-sized, turning-stands .size)
 
   -- chosen row n - left, pushed
@@ -180,7 +180,7 @@ module _ {x0 x : List ℕ} {es : List Expression} {mask n left : ℕ} (t : Turni
     unfolding tableBytes
     y-kept = table-kept-below (p .frame) CHOSEN ROWS turning-stands (omega arith)
 
-    y-sized : word32At y WORKED ≡ n - left + 1
+    y-sized : low32At y WORKED ≡ n - left + 1
     y-sized = holds-size WORKED ROWS p ∙ simp length-append (omega (arith, here))
 
     pub turning-ready : Ready y (n - left)

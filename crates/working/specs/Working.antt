@@ -10,7 +10,7 @@ use Rattle.meaning.specs.Base.{if_then_else_, maybe, eachOr}
 use Rattle.meaning.specs.Covers.{Row, Expression}
 use Rattle.meaning.specs.Processing.Queries.{workOutAll}
 use Rattle.meaning.specs.Processing.Actions.{updatedRow}
-use Rattle.words.specs.Words.{word32At}
+use Rattle.words.specs.Words.{low32At}
 use Rattle.slots.specs.Slots.{tableAt, tableBytes, blank, Frame, Stands}
 use Rattle.room.specs.Room.{WORKED, CHOSEN, ROWS, rowMeant, rowsMeant, rowsWith}
 
@@ -36,8 +36,8 @@ pub record Works (xs ys : List ℕ) : Type 0 where
 pub record Ready (xs : List ℕ) (i : ℕ) : Type 0 where
   pub chosen : Stands CHOSEN ROWS xs
   pub worked : Stands WORKED ROWS xs
-  pub below : i < word32At xs CHOSEN
-  pub within : i < word32At xs WORKED
+  pub below : i < low32At xs CHOSEN
+  pub within : i < low32At xs WORKED
   pub same : getD (tableAt xs WORKED) i blank ≡ getD (tableAt xs CHOSEN) i blank
 
 -- the expressions were worked out over chosen row i, for worked row i alone; what that is where a sum left 32 bits is left open

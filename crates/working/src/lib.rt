@@ -9,7 +9,7 @@ ghost use Rattle.meaning.specs.Values.{signed};
 ghost use Rattle.meaning.specs.ByteLayouts.{value, expression};
 ghost use Rattle.meaning.specs.Processing.Queries as Queries;
 ghost use Rattle.meaning.specs.Processing.Actions.{updatedRow};
-ghost use Rattle.words.specs.Words.{word32At, endOf, readable, sumMeant};
+ghost use Rattle.words.specs.Words.{low32At, endOf, readable, sumMeant};
 ghost use Rattle.words.specs.declared.End.the-variants.{Short};
 ghost use Rattle.fields.specs.Fields.{valuesAt};
 ghost use Rattle.slots.specs.Slots.{tableAt, Stands};
@@ -108,7 +108,7 @@ pub fn with_values(s: &[u8], at: usize, mask: usize, e: Slot) -> Slot
 // The value of an expression over chosen row i, unless its sum leaves 32 bits.
 fn work_out(room: &[u8], x: Expression, i: usize) -> Sum
     requires { ⌜ Stands CHOSEN ROWS (now room) ⌝ }
-    requires { ⌜ i < word32At (now room) CHOSEN ⌝ }
+    requires { ⌜ i < low32At (now room) CHOSEN ⌝ }
     ensures { λ r. ⌜ sumMeant r
         ≡ Queries.workOut (rowMeant (getD (tableAt (now (room .entry)) CHOSEN) i Slots.blank)) (expressionMeant x) ⌝ }
 {

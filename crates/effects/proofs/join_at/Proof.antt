@@ -3,14 +3,14 @@
 use native.Mathlib.Omega.{arith}
 use borrow.Author.Needs.{needs}
 use Prim.Native.Nat.{_<_}
-use Rattle.words.specs.Words.{word32At}
+use Rattle.words.specs.Words.{low32At}
 use Rattle.slots.proofs.Tables.{table-length}
 use Rattle.effects.proofs.Joining.{hit-true, joined-remove, joined-put}
 use Rattle.effects.proofs.join_at.Statement.{statement}
 use Rattle.effects.proofs.join_at.Tie as tie
 
 -- the place is in the table
-within : (c : tie.Start) → c .args .i < word32At (c .args .room .now) (c .args .base)
+within : (c : tie.Start) → c .args .i < low32At (c .args .room .now) (c .args .base)
 within c =
     let a = c .args in
     omega (arith, hit-true (a .op .handle) (a .i) _ (c .pre .1 .1 .1) .0, table-length (a .room .now) (a .base))

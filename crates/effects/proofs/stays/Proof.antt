@@ -7,7 +7,7 @@ use mathlib.Core.Bool.{true}
 use mathlib.Core.List.{List}
 use Prim.Native.Nat.{ℕ, _<_}
 use native.Mathlib.Omega.{arith}
-use Rattle.words.specs.Words.{word32At}
+use Rattle.words.specs.Words.{low32At}
 use Rattle.slots.specs.Slots.{tableAt, hit}
 use Rattle.slots.proofs.Tables.{table-length}
 use Rattle.effects.proofs.Joining.{hit-true, hit-place, inserted-stays, updated-stays, joined-same}
@@ -15,7 +15,7 @@ use Rattle.effects.proofs.stays.Statement.{statement}
 use Rattle.effects.proofs.stays.Tie as tie
 
 -- a place that is hit is in the table
-within : (xs : List ℕ) (base i h : ℕ) → hit h i (tableAt xs base) ≡ true → i < word32At xs base
+within : (xs : List ℕ) (base i h : ℕ) → hit h i (tableAt xs base) ≡ true → i < low32At xs base
 within xs base i h q = omega (arith, hit-true h i (tableAt xs base) q .0, table-length xs base)
 
 kind-at-requires : tie.Need-kind-at-requires

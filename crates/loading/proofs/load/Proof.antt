@@ -34,7 +34,7 @@ returns c =
     let emptied = at-loop .before .before .before in
     let put = emptied .before .before .before .before in
     let start = put .before .before .before .before in
-    loading-done (start .pre .1) (word-put _ _ (omega arith) (omega arith) (put .put32 .ensures)) (emptied .empty-all .ensures)
+    loading-done (start .pre .1) (word-put _ _ (omega arith) (omega arith) (put .put-low32 .ensures)) (emptied .empty-all .ensures)
     (at-loop .loop .inv) (c .loop-test .left)
 
 same-length : tie.Need-same-length Inv-loop μ-loop

@@ -5,7 +5,7 @@ use denote.Ref.{now}
 use mathlib.Core.Path.{_≡_, sym, _∙_}
 use native.Mathlib.Omega.{arith}
 use lib.ListN.{length, length-take, length-drop}
-use Rattle.words.specs.Words.{word32At}
+use Rattle.words.specs.Words.{low32At}
 use Rattle.slots.specs.Slots.{tableAt, tableBytes}
 use Rattle.slots.proofs.Tables.{table-length}
 use Rattle.room.specs.Room.{NEXT, LIVE, liveRows}
@@ -14,7 +14,7 @@ use Rattle.output.proofs.put_image.Statement.{statement}
 use Rattle.output.proofs.put_image.Tie as tie
 
 abbrev Inv-loop : tie.InvT-loop
-Inv-loop out₀ room n left₀ here₀ out left here = Writing (tableAt room LIVE) (word32At room NEXT) n out₀ out left here
+Inv-loop out₀ room n left₀ here₀ out left here = Writing (tableAt room LIVE) (low32At room NEXT) n out₀ out left here
 
 abbrev μ-loop : tie.MeasureT-loop
 μ-loop out₀ room n left₀ here₀ out left here = left
@@ -23,9 +23,9 @@ size-requires : tie.Need-size-requires Inv-loop μ-loop
 unfolding tableBytes
 size-requires c κs = omega arith
 
-word32-requires : tie.Need-word32-requires Inv-loop μ-loop
+low32-requires : tie.Need-low32-requires Inv-loop μ-loop
 unfolding tableBytes
-word32-requires c κs = omega arith
+low32-requires c κs = omega arith
 
 put-head-requires : tie.Need-put-head-requires Inv-loop μ-loop
 put-head-requires c κs = (omega arith, omega arith)
@@ -39,9 +39,9 @@ loop-holds c =
     let xs = now (start .args .room) in
     let n = size .size .result in
     let all : length (tableAt xs LIVE) ≡ n = table-length xs LIVE ∙ sym (size .size .ensures) in
-    writing-start (tableAt xs LIVE) (word32At xs NEXT) n (now (start .args .out)) (head .put-head .last .0) all
+    writing-start (tableAt xs LIVE) (low32At xs NEXT) n (now (start .args .out)) (head .put-head .last .0) all
     (omega (arith, size .size .ensures, start .pre .0 .size)) (start .pre .1)
-    (rw (next .word32 .ensures) at (head .put-head .ensures))
+    (rw (next .low32 .ensures) at (head .put-head .ensures))
 
 sub-put-row : tie.Need-sub-put-row Inv-loop μ-loop
 sub-put-row c = omega (arith, writing-length (c .before .loop .inv))
@@ -79,7 +79,7 @@ returns c =
     let next = head .before in
     let start = next .before .before .before .before .before in
     writing-done (c .before .loop .inv) (c .loop-test .left) (now (start .args .out))
-    (rw (next .word32 .ensures) at (head .put-head .ensures))
+    (rw (next .low32 .ensures) at (head .put-head .ensures))
 
 pub put-image-spec : {M : Type 1} → statement M
 put-image-spec =
@@ -88,7 +88,7 @@ put-image-spec =
     Inv-loop
     μ-loop
     size-requires
-    word32-requires
+    low32-requires
     put-head-requires
     loop-holds
     sub-put-row

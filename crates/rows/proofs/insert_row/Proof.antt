@@ -23,7 +23,7 @@ join-requires c κs =
     let numbered = made .before in
     let start = numbered .before .before .before in
     insert-takes _ _ _ (numbered .next .ensures) (made .row-of .ensures) (held .push .ensures)
-    (word-put _ _ (omega (arith, numbered .next .ensures)) (omega arith) (put .put32 .ensures)) (c .as-effect .ensures) (start .pre .1 .1)
+    (word-put _ _ (omega (arith, numbered .next .ensures)) (omega arith) (put .put-low32 .ensures)) (c .as-effect .ensures) (start .pre .1 .1)
 
 returns : tie.Need-returns
 returns c =
@@ -35,7 +35,7 @@ returns c =
     let numbered = made .before in
     let start = numbered .before .before .before in
     insert-turned _ _ _ (numbered .next .ensures) (made .row-of .ensures) (held .push .ensures)
-    (word-put _ _ (omega (arith, numbered .next .ensures)) (omega arith) (put .put32 .ensures)) (told .as-effect .ensures)
+    (word-put _ _ (omega (arith, numbered .next .ensures)) (omega arith) (put .put-low32 .ensures)) (told .as-effect .ensures)
     (start .pre .1 .1) (joined .join .ensures)
 
 pub insert-row-spec : {M : Type 1} → statement M

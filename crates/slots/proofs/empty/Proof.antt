@@ -12,7 +12,7 @@ unfolding slotsFrom tableBytes
 returns c =
     let put = c .before .before in
     let start = put .before .before .before in
-    resized _ _ _ (word-put _ _ (omega arith) (omega arith) (put .put32 .ensures)) (omega arith) (start .pre) refl
+    resized _ _ _ (word-put _ _ (omega arith) (omega arith) (put .put-low32 .ensures)) (omega arith) (start .pre) refl
 
 pub empty-spec : {M : Type 1} → statement M
 unfolding tableBytes

@@ -13,14 +13,14 @@ returns c =
     let placed = c .before .before .before .before in
     let a = placed .before .before .args in
     find-yes _ _ _ (placed .place .ensures) (omega (arith, table-length (a .room .now) (a .base)))
-    (table-handle _ _ _ (omega arith) ∙ sym (c .before .word32 .ensures) ∙ c .if2 .taken)
+    (table-handle _ _ _ (omega arith) ∙ sym (c .before .low32 .ensures) ∙ c .if2 .taken)
 
 returns-2 : tie.Need-returns-2
 returns-2 c =
     let placed = c .before .before .before .before in
     let a = placed .before .before .args in
     find-other _ _ _ (placed .place .ensures) (omega (arith, table-length (a .room .now) (a .base)))
-    (λ q. c .if2 .left (c .before .word32 .ensures ∙ sym (table-handle _ _ _ (omega arith)) ∙ q))
+    (λ q. c .if2 .left (c .before .low32 .ensures ∙ sym (table-handle _ _ _ (omega arith)) ∙ q))
 
 returns-3 : tie.Need-returns-3
 returns-3 c =

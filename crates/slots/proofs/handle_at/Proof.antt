@@ -7,7 +7,7 @@ use Rattle.slots.proofs.handle_at.Statement.{statement}
 use Rattle.slots.proofs.handle_at.Tie as tie
 
 returns : tie.Need-returns
-returns c = c .word32 .ensures ∙ sym (table-handle _ _ _ (c .before .before .pre .1))
+returns c = c .low32 .ensures ∙ sym (table-handle _ _ _ (c .before .before .pre .1))
 
 pub handle-at-spec : {M : Type 1} → statement M
 unfolding tableBytes

@@ -16,7 +16,7 @@ returns c =
     let sized = moved .before .before in
     let start = sized .before .before .before in
     inserted _ _ _ _ (start .pre .0) (sized .size .ensures) (omega arith) (omega arith) (moved .move-up .ensures)
-    (stored .store .ensures) (word-put _ _ (omega arith) (omega arith) (put .put32 .ensures))
+    (stored .store .ensures) (word-put _ _ (omega arith) (omega arith) (put .put-low32 .ensures))
 
 pub insert-at-spec : {M : Type 1} → statement M
 unfolding tableBytes

@@ -13,7 +13,7 @@ unfolding hit
 returns c =
     let a = c .before .before .before .before .args in
     let within : a .i < length (tableAt (a .room .now) (a .base)) = omega (arith, table-length (a .room .now) (a .base)) in
-    rw (lt-ltb _ _ within, table-handle (a .room .now) (a .base) (a .i) (omega arith), c .word32 .ensures)
+    rw (lt-ltb _ _ within, table-handle (a .room .now) (a .base) (a .i) (omega arith), c .low32 .ensures)
 
 returns-2 : tie.Need-returns-2
 unfolding hit

@@ -8,12 +8,12 @@ returns : tie.Need-returns
 unfolding slotAt
 returns c =
     rw (
-      c .word326 .ensures,
-      c .before .word325 .ensures,
-      c .before .before .word324 .ensures,
-      c .before .before .before .word323 .ensures,
-      c .before .before .before .before .word322 .ensures,
-      c .before .before .before .before .before .word32 .ensures,
+      c .low326 .ensures,
+      c .before .low325 .ensures,
+      c .before .before .low324 .ensures,
+      c .before .before .before .low323 .ensures,
+      c .before .before .before .before .low322 .ensures,
+      c .before .before .before .before .before .low32 .ensures,
     )
 
 pub load-spec : {M : Type 1} → statement M

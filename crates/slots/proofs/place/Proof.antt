@@ -2,7 +2,7 @@
 use mathlib.Core.Path.{sym, _∙_}
 use Prim.Native.Nat.{_-_}
 use native.Mathlib.Omega.{arith}
-use Rattle.words.specs.Words.{word32At}
+use Rattle.words.specs.Words.{low32At}
 use Rattle.slots.specs.Slots.{tableAt, tableBytes}
 use Rattle.slots.proofs.Tables.{table-length, table-handle}
 use Rattle.slots.proofs.Loops.{Seek, seek-start, seek-left, seek-right, seek-done}
@@ -10,7 +10,7 @@ use Rattle.slots.proofs.place.Statement.{statement}
 use Rattle.slots.proofs.place.Tie as tie
 
 abbrev Inv-loop : tie.InvT-loop
-Inv-loop room base most handle lo₀ hi₀ lo hi = Seek (tableAt room base) (word32At room base) handle lo hi
+Inv-loop room base most handle lo₀ hi₀ lo hi = Seek (tableAt room base) (low32At room base) handle lo hi
 
 abbrev μ-loop : tie.MeasureT-loop
 μ-loop room base most handle lo₀ hi₀ lo hi = hi - lo
@@ -24,7 +24,7 @@ loop-again c =
     let at-loop = read .before .before in
     let start = at-loop .before .before .before in
     seek-right _ _ _ _ (at-loop .loop .inv) _ _ (start .pre .1) (omega arith)
-    (read .word32 .ensures ∙ sym (table-handle _ _ _ (omega arith))) (c .if1 .taken)
+    (read .low32 .ensures ∙ sym (table-handle _ _ _ (omega arith))) (c .if1 .taken)
 
 loop-again-2 : tie.Need-loop-again-2 Inv-loop μ-loop
 loop-again-2 c =
@@ -32,7 +32,7 @@ loop-again-2 c =
     let at-loop = read .before .before in
     let start = at-loop .before .before .before in
     seek-left _ _ _ _ (at-loop .loop .inv) _ _ (start .pre .1) (omega arith) (omega arith)
-    (read .word32 .ensures ∙ sym (table-handle _ _ _ (omega arith))) (c .if1 .left)
+    (read .low32 .ensures ∙ sym (table-handle _ _ _ (omega arith))) (c .if1 .left)
 
 pub place-spec : {M : Type 1} → statement M
 unfolding tableBytes

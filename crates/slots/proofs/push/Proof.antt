@@ -14,7 +14,7 @@ returns c =
     let sized = stored .before .before in
     let start = sized .before .before .before in
     pushed _ _ _ (start .pre .0) (sized .size .ensures) (omega arith) (stored .store .ensures)
-    (word-put _ _ (omega arith) (omega arith) (put .put32 .ensures))
+    (word-put _ _ (omega arith) (omega arith) (put .put-low32 .ensures))
 
 pub push-spec : {M : Type 1} → statement M
 unfolding tableBytes

@@ -15,9 +15,9 @@ returns c =
     let sized = read .before .before in
     let start = sized .before .before .before in
     let a = start .args in
-    rw (← marks-same (a .room .now) (a .from) (a .i) (start .pre .1 .1 .1 .1) (read .word32 .ensures))
+    rw (← marks-same (a .room .now) (a .from) (a .i) (start .pre .1 .1 .1 .1) (read .low32 .ensures))
     (pushed _ _ _ (start .pre .0) (sized .size .ensures) (omega arith) (copied .copy .ensures)
-    (word-put _ _ (omega arith) (omega arith) (put .put32 .ensures)))
+    (word-put _ _ (omega arith) (omega arith) (put .put-low32 .ensures)))
 
 pub push-from-spec : {M : Type 1} → statement M
 unfolding tableBytes

@@ -14,7 +14,7 @@ returns c =
     let sized = copied .before .before in
     let start = sized .before .before .before in
     tailed _ _ _ _ _ (start .pre .0) (sized .size .ensures) (omega arith) (omega arith) (copied .copy-bytes .ensures)
-    (word-put _ _ (omega arith) (omega arith) (put .put32 .ensures))
+    (word-put _ _ (omega arith) (omega arith) (put .put-low32 .ensures))
 
 pub put-tail-spec : {M : Type 1} → statement M
 unfolding tableBytes

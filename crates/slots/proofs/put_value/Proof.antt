@@ -14,7 +14,7 @@ returns c =
     let a = start .args in
     rw (table-get (a .room .now) (a .base) (a .i) (start .pre .1 .0))
     (replaced _ _ _ (start .pre .0) (start .pre .1 .0)
-    (slot-valued _ _ _ (word-put _ _ (omega arith) (omega arith) (put .put32 .ensures)) (start .pre .1 .1)))
+    (slot-valued _ _ _ (word-put _ _ (omega arith) (omega arith) (put .put-low32 .ensures)) (start .pre .1 .1)))
 
 pub put-value-spec : {M : Type 1} → statement M
 unfolding tableBytes

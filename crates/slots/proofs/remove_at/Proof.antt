@@ -1,7 +1,7 @@
 -- `slots::remove_at` meets its contract: the slots after the place move down to it, and the size counts one less.
 use Prim.Native.Nat.{_<_}
 use native.Mathlib.Omega.{arith}
-use Rattle.words.proofs.Laws.{word32-lt}
+use Rattle.words.proofs.Laws.{low32-lt}
 use Rattle.slots.specs.Slots.{tableBytes}
 use Rattle.slots.proofs.Frames.{word-put}
 use Rattle.slots.proofs.Tables.{removed}
@@ -12,10 +12,10 @@ use Rattle.slots.proofs.remove_at.Tie as tie
 small : (c : tie.After-size) → c .size .result < 4294967296
 small c =
     let known = c .before .before in
-    rw (c .size .ensures) (word32-lt _ (λ k. known .slice-known .given k .fits) _)
+    rw (c .size .ensures) (low32-lt _ (λ k. known .slice-known .given k .fits) _)
 
-cast-put32 : tie.Need-cast-put32
-cast-put32 c = omega (arith, small (c .before .before .before .before .before))
+cast-put-low32 : tie.Need-cast-put-low32
+cast-put-low32 c = omega (arith, small (c .before .before .before .before .before))
 
 returns : tie.Need-returns
 unfolding tableBytes
@@ -25,7 +25,7 @@ returns c =
     let sized = moved .before .before in
     let start = sized .before .before .before in
     removed _ _ _ _ (start .pre .0) (sized .size .ensures) (omega arith) (moved .move-down .ensures)
-    (word-put _ _ (omega (arith, small sized)) (omega arith) (put .put32 .ensures))
+    (word-put _ _ (omega (arith, small sized)) (omega arith) (put .put-low32 .ensures))
 
 pub remove-at-spec : {M : Type 1} → statement M
 unfolding tableBytes
@@ -34,4 +34,4 @@ remove-at-spec =
     (tie.spec
     (λ c κs. omega arith)
     (λ c. omega arith) (λ c. omega arith) (λ c. omega arith) (λ c. omega arith) (λ c. omega arith) (λ c. omega arith) (λ c κs. omega arith)
-    (λ c. omega arith) cast-put32 (λ c κs. omega arith) (λ c. returns c .frame .len) returns)
+    (λ c. omega arith) cast-put-low32 (λ c κs. omega arith) (λ c. returns c .frame .len) returns)

@@ -30,7 +30,7 @@ returns c =
       v3 = values .1 .1 .1 .0 .1;
     } in
     slot-put _ _ _ fits (omega arith) (start .pre)
-    (p1 .put32 .ensures) (p2 .put322 .ensures) (p3 .put323 .ensures) (p4 .put324 .ensures) (p5 .put325 .ensures) (p6 .put326 .ensures)
+    (p1 .put-low32 .ensures) (p2 .put-low322 .ensures) (p3 .put-low323 .ensures) (p4 .put-low324 .ensures) (p5 .put-low325 .ensures) (p6 .put-low326 .ensures)
     (m .joined .ensures .0) (m .joined .ensures .1) (m .joined .ensures .2)
 
 pub store-spec : {M : Type 1} → statement M

@@ -7,7 +7,7 @@ use Rattle.slots.proofs.value_at.Statement.{statement}
 use Rattle.slots.proofs.value_at.Tie as tie
 
 returns : tie.Need-returns
-returns c = c .word32 .ensures ∙ table-value _ _ _ _ (omega arith) (omega arith)
+returns c = c .low32 .ensures ∙ table-value _ _ _ _ (omega arith) (omega arith)
 
 returns-2 : tie.Need-returns-2
 returns-2 c = no-value _ _ (omega arith)
