@@ -16,15 +16,15 @@ use Rattle.slots.specs.Slots.{slotsFrom, tableAt, tableBytes, Frame, Stands, Ho
 use Rattle.slots.proofs.Frames.{frame-refl, frame-wider, frame-join}
 use Rattle.slots.proofs.Tables.{table-kept-below, table-kept-above, stands-kept-below, stands-kept-above}
 use Rattle.room.specs.Room.{LIVE, INSERTED, DELETED, NEW, OLD, CHOSEN, WORKED, STRETCH, SPARE, END, ROWS, waitAt, Laid}
-use Rattle.room.specs.Joins.{joinStretch, settledFor, Settleable, AllSettled}
+use Rattle.room.specs.Joins.{joinStretch, settledAt, Settleable, AllSettled}
 use Rattle.room.proofs.Kept.{kept-refl, kept-below, kept-above}
-use Rattle.effects.specs.Settling.{Settles, Aside, WaitsSettled, settledAt}
+use Rattle.effects.specs.Settling.{Settles, Aside, WaitsSettled}
 
 pub record Upto (xs x tables : List ℕ) (k : ℕ) : Type 0 where
   pub top : k ≤ 16
   pub frame : Frame SPARE (waitAt k) xs x
   pub stands : (j : ℕ) → j < 16 → Stands (waitAt j) 128 x
-  pub done : (j : ℕ) → j < k → getD tables j 0 ≤ 3 → tableAt x (waitAt j) ≡ settledFor xs (getD tables j 0) j
+  pub done : (j : ℕ) → j < k → getD tables j 0 ≤ 3 → tableAt x (waitAt j) ≡ settledAt xs (waitAt j) (getD tables j 0)
 
 pub upto-start : {xs tables : List ℕ} → Settleable xs tables → Upto xs xs tables 0
 upto-start r =
@@ -51,8 +51,7 @@ module _ {xs x tables : List ℕ} (ready : Settleable xs tables) (k : ℕ) (up :
   stretch-same : tableAt x STRETCH ≡ tableAt xs STRETCH
   stretch-same = table-kept-above (up .frame) STRETCH 128 (ready .laid .stretch) (omega (arith, up .top))
 
-  next-settled : k < 16 → settledAt x (waitAt k) (getD tables k 0) ≡ settledFor xs (getD tables k 0) k
-  unfolding settledFor
+  next-settled : k < 16 → settledAt x (waitAt k) (getD tables k 0) ≡ settledAt xs (waitAt k) (getD tables k 0)
   next-settled h = rw (next-same h, stretch-same)
 
   module _ (h : k < 16) (active : getD tables k 0 ≤ 3) where
@@ -195,7 +194,7 @@ module _ {xs x x1 x2 ys tables : List ℕ} (ready : Settleable xs tables) (s : W
 
 -- where nothing was done, nothing has to join
 pub settled-none : {xs tables : List ℕ} → Settleable xs tables → low32At xs STRETCH ≡ 0 → AllSettled xs xs tables
-unfolding settledFor joinStretch tableAt slotsFrom
+unfolding joinStretch tableAt slotsFrom
 settled-none {xs} {tables} ready q =
     let none : tableAt xs STRETCH ≡ [] = rw q in
     record {

@@ -8,7 +8,7 @@ use Rattle.words.specs.Words.{low32At}
 use Rattle.slots.specs.declared.Slot.{Slot}
 use Rattle.slots.specs.Slots.{tableAt, tableBytes, Frame, Stands, Holds, Sorted, blank}
 use Rattle.room.specs.Room.{SPARE, STRETCH, ENTRIES, waitAt}
-use Rattle.room.specs.Joins.{joinSlot, keptSlot, joinStretch, settledFor}
+use Rattle.room.specs.Joins.{joinSlot, keptSlot, joinStretch, settledAt}
 
 -- ---- Of lists alone
 
@@ -56,10 +56,6 @@ woven xs base table i j = tableAt xs SPARE ++ rest table (tableAt xs base) (tabl
 abbrev pub wovenFrom : List ℕ → ℕ → ℕ → ℕ → ℕ → List Slot
 wovenFrom xs base table i j = take i (tableAt xs base) ++ rest table (tableAt xs base) (tableAt xs STRETCH) i j
 
--- all of it
-abbrev pub settledAt : List ℕ → ℕ → ℕ → List Slot
-settledAt xs base table = joinStretch table (tableAt xs STRETCH) (tableAt xs base)
-
 -- slot j of the stretch can be woven next, where what waits goes on at i
 pub record Weavable (xs : List ℕ) (base i j : ℕ) : Type 0 where
   pub loom : Loom xs base
@@ -84,4 +80,4 @@ pub record Aside (base : ℕ) (xs ys : List ℕ) (l : List Slot) : Type 0 where
 pub record WaitsSettled (xs ys tables : List ℕ) : Type 0 where
   pub frame : Frame SPARE STRETCH xs ys
   pub stands : (k : ℕ) → k < 16 → Stands (waitAt k) ENTRIES ys
-  pub waits : (k : ℕ) → k < 16 → getD tables k 0 ≤ 3 → tableAt ys (waitAt k) ≡ settledFor xs (getD tables k 0) k
+  pub waits : (k : ℕ) → k < 16 → getD tables k 0 ≤ 3 → tableAt ys (waitAt k) ≡ settledAt xs (waitAt k) (getD tables k 0)

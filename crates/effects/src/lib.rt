@@ -13,9 +13,9 @@ ghost use Rattle.meaning.specs.Processing.TransitionTables as TransitionTables;
 ghost use Rattle.words.specs.Words.{low32At};
 ghost use Rattle.slots.specs.Slots.{tableAt, Stands, Holds, Sorted, placeIn, hit};
 ghost use Rattle.room.specs.Room.{STRETCH, SPARE, Laid, watchRule, effectMeant, waitsIn};
-ghost use Rattle.room.specs.Joins.{asEffect, joinSlot, joinSlots, Takes, Settleable, AllSettled};
+ghost use Rattle.room.specs.Joins.{asEffect, joinSlot, joinSlots, Takes, Settleable, AllSettled, settledAt};
 ghost use Rattle.effects.specs.Settling.{Settles, Loom, Passed, Weavable, Wove, Aside, WaitsSettled};
-ghost use Rattle.effects.specs.Settling.{joinedAt, tableIn, wovenFrom, settledAt};
+ghost use Rattle.effects.specs.Settling.{joinedAt, tableIn, wovenFrom};
 use room::Watch;
 use slots::Slot;
 

@@ -15,7 +15,7 @@ use Rattle.meaning.proofs.Stretches.{own-append}
 use Rattle.words.specs.Words.{Bytes}
 use Rattle.slots.specs.Slots.{tableAt}
 use Rattle.room.specs.Room.{NEXT, STRETCH, waitAt, waitMeant, waitsIn, stretchIn}
-use Rattle.room.specs.Joins.{joinStretch, settledFor, Settleable, AllSettled}
+use Rattle.room.specs.Joins.{settledAt, Settleable, AllSettled}
 use Rattle.room.specs.Represents.{Represents, Settled, Reached}
 use Rattle.room.proofs.Kept.{word-kept, live-kept}
 use Rattle.room.proofs.Waits.{waits-sorted, waits-length, waits-stretch}
@@ -45,8 +45,8 @@ module _ {start : Image} {s : State} {xs tables : List ℕ} (reached : Reached s
     waited = own-listed (getD tables k 0) (netEffect-listed (drop (getD (s .marks) k 0) (p .joined)))
 
     -- joined, its table means all of it
-    settled-means : waitMeant (settledFor xs (getD tables k 0) k) ≡ ownOf (getD tables k 0) (waits s k)
-    unfolding waits settledFor waitsIn stretchIn
+    settled-means : waitMeant (settledAt xs (waitAt k) (getD tables k 0)) ≡ ownOf (getD tables k 0) (waits s k)
+    unfolding waits waitsIn stretchIn
     settled-means =
         let t = stretch reached k in
         let n = getD (s .marks) k 0 in
@@ -55,11 +55,11 @@ module _ {start : Image} {s : State} {xs tables : List ℕ} (reached : Reached s
         ∙ sym (own-append (getD tables k 0) (drop n (p .joined)) (p .since) (t .sound) (rw (since-whole k) at (t .made)))
         ∙ ap (λ (os : List RowOperation). ownOf (getD tables k 0) (netEffect os)) (sym (since-whole k))
 
-    settled-few : length (settledFor xs (getD tables k 0) k) ≤ 128
+    settled-few : length (settledAt xs (waitAt k) (getD tables k 0)) ≤ 128
     settled-few =
         omega (
           arith,
-          waits-length (settledFor xs (getD tables k 0) k) (ownOf (getD tables k 0) (waits s k)) settled-means,
+          waits-length (settledAt xs (waitAt k) (getD tables k 0)) (ownOf (getD tables k 0) (waits s k)) settled-means,
           own-few (getD tables k 0) (waits s k),
           waits-few reached k,
         )

@@ -61,9 +61,9 @@ pub record Joinable (xs : List ℕ) (op : Slot) : Type 0 where
 pub record Ended (tables : List ℕ) : Type 0 where
   pub stays : (j k : ℕ) → j ≤ k → k < 16 → 4 < getD tables j 0 → 4 < getD tables k 0
 
--- what waits for rule k then
-unfoldable pub settledFor : List ℕ → ℕ → ℕ → List Slot
-settledFor xs table k = joinStretch table (tableAt xs STRETCH) (tableAt xs (waitAt k))
+-- what waits at a base then, for a rule on a table
+abbrev pub settledAt : List ℕ → ℕ → ℕ → List Slot
+settledAt xs base table = joinStretch table (tableAt xs STRETCH) (tableAt xs base)
 
 -- what waits for each active rule can take what was done since
 pub record Settleable (xs tables : List ℕ) : Type 0 where
@@ -71,12 +71,12 @@ pub record Settleable (xs tables : List ℕ) : Type 0 where
   pub ended : Ended tables
   pub rises : Sorted (tableAt xs STRETCH)
   pub sorted : (k : ℕ) → k < 16 → getD tables k 0 ≤ 3 → Sorted (tableAt xs (waitAt k))
-  pub fits : (k : ℕ) → k < 16 → getD tables k 0 ≤ 3 → length (settledFor xs (getD tables k 0) k) ≤ ENTRIES
+  pub fits : (k : ℕ) → k < 16 → getD tables k 0 ≤ 3 → length (settledAt xs (waitAt k) (getD tables k 0)) ≤ ENTRIES
 
 -- it joined what waits for each of them, and nothing of it is left; next handle, live rows and transition tables stay
 pub record AllSettled (xs ys tables : List ℕ) : Type 0 where
   pub laid : Laid ys
-  pub waits : (k : ℕ) → k < 16 → getD tables k 0 ≤ 3 → tableAt ys (waitAt k) ≡ settledFor xs (getD tables k 0) k
+  pub waits : (k : ℕ) → k < 16 → getD tables k 0 ≤ 3 → tableAt ys (waitAt k) ≡ settledAt xs (waitAt k) (getD tables k 0)
   pub none : tableAt ys STRETCH ≡ []
   pub before : Kept NEXT CHOSEN xs ys
   pub beyond : Kept END (length xs) xs ys
