@@ -20,7 +20,7 @@ pub const CHOSEN: usize = 7704;
 
 pub const WORKED: usize = 9244;
 
-// Where a table of what waits is woven: over both of these, which are empty between actions.
+// Where a table of what waits is woven: over both of these, which nobody reads between actions.
 pub const SPARE: usize = 7704;
 
 // What waits for each rule: sixteen tables, one after another.
