@@ -1,20 +1,20 @@
--- Tables by rising handle: where a handle is, and that an insertion at its place, a removal, a store of the same handle and a push of a
--- higher one keep the order. Of lists alone; what stands before a place is below the handle, and what stands from it on is not.
+-- Tables by rising handle: where a handle is. Of lists alone; what stands before a place is below the handle, and what stands from it on is
+-- not.
 use mathlib.Core.Path.{_≡_, refl, sym, ap, _∙_, subst}
 use mathlib.Core.Bool.{Bool, true, false}
-use mathlib.Core.List.{List, [], _∷_, _++_}
+use mathlib.Core.List.{List, [], _∷_}
 use mathlib.Core.Logic.{⊎-elim}
 use Prim.Native.Nat.{ℕ, zero, suc, _-_, _≤_, _<_}
 use native.Mathlib.Nat.{eq-or-lt-of-le}
 use native.Mathlib.Omega.{arith}
 use borrow.Author.Tests.{lt-ltb, le-ltb, ltb-true, ltb-false, eq-eqb, ne-eqb, eqb-true}
 use lib.Dec.{eqb, ltb}
-use lib.ListN.{length, getD, set, length-set}
+use lib.ListN.{length, getD}
 use Rattle.meaning.specs.Base.{if_then_else_}
 use Rattle.words.proofs.Laws.{split}
 use Rattle.slots.specs.declared.Slot.{Slot}
 use Rattle.slots.specs.declared.Found.the-variants.{At, Nothing}
-use Rattle.slots.specs.Slots.{insertAt, removeAt, blank, placeIn, hit, findIn, Sorted}
+use Rattle.slots.specs.Slots.{insertAt, blank, placeIn, hit, findIn, Sorted}
 
 -- no slot of l has the handle h
 pub record Absent (h : ℕ) (l : List Slot) : Type 0 where
@@ -150,13 +150,7 @@ pub find-there : (h : ℕ) (l : List Slot) (i : ℕ) → Sorted l → i < length
 find-there h l i s b q =
     sym (find-yes l h i (sym (place-there h l i s b q)) b q)
 
-pub find-absent : (h : ℕ) (l : List Slot) → Absent h l → findIn h l ≡ Nothing
-find-absent h l a =
-    split (ltb (placeIn h l) (length l))
-    (λ e. let b = ltb-true (placeIn h l) (length l) e in sym (find-other l h (placeIn h l) refl b (a .differs (placeIn h l) b)))
-    (λ e. sym (find-end l h (placeIn h l) refl (ltb-false (placeIn h l) (length l) e)))
-
--- ---- Lengths
+-- ---- One slot more, and one less
 
 pub insert-length : (i : ℕ) (e : Slot) (l : List Slot) → length (insertAt i e l) ≡ suc (length l)
 unfolding insertAt
@@ -164,105 +158,5 @@ insert-length zero e l = refl
 insert-length (suc i) e [] = refl
 insert-length (suc i) e (x ∷ l) = ap suc (insert-length i e l)
 
-pub remove-length : (i : ℕ) (l : List Slot) → i < length l → suc (length (removeAt i l)) ≡ length l
-unfolding removeAt
-remove-length i [] h = absurd (omega arith)
-remove-length zero (x ∷ l) h = refl
-remove-length (suc i) (x ∷ l) h = ap suc (remove-length i l (omega arith))
-
--- ---- Keeping the order
-
--- each handle of l is above b
-record Over (b : ℕ) (l : List Slot) : Type 0 where
-  each : (j : ℕ) → j < length l → b < getD l j blank .handle
-
-over-tail : {b : ℕ} {x : Slot} {l : List Slot} → Over b (x ∷ l) → Over b l
-over-tail o = record { each = λ j h. o .each (suc j) (omega arith) }
-
-over-cons : {b : ℕ} {x : Slot} {l : List Slot} → b < x .handle → Over b l → Over b (x ∷ l)
-over-cons {b} {x} {l} h o = record { each = go }
-  where
-    go : (j : ℕ) → j < length (x ∷ l) → b < getD (x ∷ l) j blank .handle
-    go zero p = h
-    go (suc j) p = o .each j (omega arith)
-
-head-over : {x : Slot} {l : List Slot} → Sorted (x ∷ l) → Over (x .handle) l
-head-over s = record { each = λ j h. s .rises 0 (suc j) (omega arith) (omega arith) }
-
 pub tail-sorted : {x : Slot} {l : List Slot} → Sorted (x ∷ l) → Sorted l
 tail-sorted s = record { rises = λ i j h b. s .rises (suc i) (suc j) (omega arith) (omega arith) }
-
-cons-sorted : {x : Slot} {l : List Slot} → Over (x .handle) l → Sorted l → Sorted (x ∷ l)
-cons-sorted {x} {l} o s = record { rises = go }
-  where
-    go : (i j : ℕ) → i < j → j < length (x ∷ l) → getD (x ∷ l) i blank .handle < getD (x ∷ l) j blank .handle
-    go i zero h b = absurd (omega arith)
-    go zero (suc j) h b = o .each j (omega arith)
-    go (suc i) (suc j) h b = s .rises i j (omega arith) (omega arith)
-
-over-weak : {b c : ℕ} {l : List Slot} → b ≤ c → Over c l → Over b l
-over-weak h o = record { each = λ j p. omega (arith, o .each j p) }
-
-over-insert : {b : ℕ} (i : ℕ) (e : Slot) (l : List Slot) → b < e .handle → Over b l → Over b (insertAt i e l)
-unfolding insertAt
-over-insert zero e l h o = over-cons h o
-over-insert (suc i) e [] h o = over-cons h o
-over-insert (suc i) e (x ∷ l) h o = over-cons (o .each 0 (omega arith)) (over-insert i e l h (over-tail o))
-
-over-remove : {b : ℕ} (i : ℕ) (l : List Slot) → Over b l → Over b (removeAt i l)
-unfolding removeAt
-over-remove zero [] o = o
-over-remove (suc i) [] o = o
-over-remove zero (x ∷ l) o = over-tail o
-over-remove (suc i) (x ∷ l) o = over-cons (o .each 0 (omega arith)) (over-remove i l (over-tail o))
-
-pub sorted-nil : Sorted []
-sorted-nil = record { rises = λ i j h b. absurd (omega arith) }
-
-pub sorted-insert : (e : Slot) (l : List Slot) → Sorted l → Absent (e .handle) l → Sorted (insertAt (placeIn (e .handle) l) e l)
-unfolding insertAt placeIn
-sorted-insert e [] s a = record { rises = λ i j h b. absurd (omega arith) }
-sorted-insert e (x ∷ l) s a =
-    by (ltb (x .handle) (e .handle)) refl
-    (sorted-insert e l (tail-sorted s) (record { differs = λ j b. a .differs (suc j) (omega arith) }))
-  where
-    by : (t : Bool) → ltb (x .handle) (e .handle) ≡ t → Sorted (insertAt (placeIn (e .handle) l) e l)
-        → Sorted (insertAt (if t then suc (placeIn (e .handle) l) else 0) e (x ∷ l))
-    by true q r = cons-sorted (over-insert (placeIn (e .handle) l) e l (ltb-true _ _ q) (head-over s)) r
-    by false q r =
-        let lt : e .handle < x .handle = strict _ _ (ltb-false _ _ q) (a .differs 0 (omega arith)) in
-        cons-sorted (over-cons lt (over-weak (omega arith) (head-over s))) s
-
-pub sorted-remove : (i : ℕ) (l : List Slot) → Sorted l → Sorted (removeAt i l)
-unfolding removeAt
-sorted-remove zero [] s = s
-sorted-remove (suc i) [] s = s
-sorted-remove zero (x ∷ l) s = tail-sorted s
-sorted-remove (suc i) (x ∷ l) s = cons-sorted (over-remove i l (head-over s)) (sorted-remove i l (tail-sorted s))
-
--- a store of a slot with the handle that stood there changes no handle
-pub set-handle : (i : ℕ) (e : Slot) (l : List Slot) → e .handle ≡ getD l i blank .handle
-    → (k : ℕ) → getD (set l i e) k blank .handle ≡ getD l k blank .handle
-set-handle i e [] q k = refl
-set-handle zero e (x ∷ l) q zero = q
-set-handle zero e (x ∷ l) q (suc k) = refl
-set-handle (suc i) e (x ∷ l) q zero = refl
-set-handle (suc i) e (x ∷ l) q (suc k) = set-handle i e l q k
-
-pub sorted-set : (i : ℕ) (e : Slot) (l : List Slot) → Sorted l → e .handle ≡ getD l i blank .handle → Sorted (set l i e)
-sorted-set i e l s q =
-    record {
-      rises =
-          λ j k h b.
-          rw (set-handle i e l q j, set-handle i e l q k) (s .rises j k h (rw length-set at b));
-    }
-
-pub sorted-push : (e : Slot) (l : List Slot) → Sorted l → ((j : ℕ) → j < length l → getD l j blank .handle < e .handle)
-    → Sorted (l ++ (e ∷ []))
-sorted-push e [] s a = cons-sorted (record { each = λ j h. absurd (omega arith) }) sorted-nil
-sorted-push e (x ∷ l) s a =
-    cons-sorted (over-push l (head-over s) (a 0 (omega arith))) (sorted-push e l (tail-sorted s) (λ j h. a (suc j) (omega arith)))
-  where
-    over-push : {b : ℕ} (k : List Slot) → Over b k → b < e .handle → Over b (k ++ (e ∷ []))
-    over-push [] o h = over-cons h o
-    over-push (y ∷ k) o h = over-cons (o .each 0 (omega arith)) (over-push k (over-tail o) h)

@@ -13,7 +13,7 @@ use lib.ListN.{length, getD, set, replicate, length-set, List·getD-eq-default}
 use lib.Seq.{sets, getD-set-same, getD-set-other}
 use Rattle.meaning.specs.Base.{if_then_else_}
 use Rattle.meaning.specs.Reading.{Read, bad, got, Parser, onFrom, byteAt, byteWithin, byte, number16, number32, many}
-use Rattle.meaning.specs.ByteLayouts.{value, bytes2, bytes4}
+use Rattle.meaning.specs.ByteLayouts.{value}
 use Rattle.meaning.specs.Values.{signed}
 use Rattle.meaning.proofs.Lists.{Each, noElement, anElement}
 use Rattle.meaning.proofs.Parsing.{on-from-got, same-value, same-place}
@@ -82,10 +82,6 @@ module _ (s : List ℕ) (b : Bytes s) (at : ℕ) where
   pub word16-lt : word16At s at < 65536
   unfolding word16At
   word16-lt = omega (arith, b at, b (at + 1))
-
-  pub word32-lt : word32At s at < 4294967296
-  unfolding word32At
-  word32-lt = omega (arith, b at, b (at + 1), b (at + 2), b (at + 3))
 
   pub low32-lt : low32At s at < 4294967296
   unfolding low32At
@@ -295,84 +291,8 @@ sets-within (v ∷ vs) xs at (suc k) d h fits =
     let e : at + suc k ≡ suc at + k = omega arith in
     rw e (sets-within vs (set xs at v) (suc at) k d (omega arith) (simp length-set (omega arith)))
 
--- so numbers beside them stay as they were
-module _ (vs xs : List ℕ) (at k : ℕ) where
-  pub word16-sets-below : k + 2 ≤ at → word16At (sets xs at vs) k ≡ word16At xs k
-  unfolding word16At
-  word16-sets-below h = omega (arith, sets-below vs xs at k 0 (omega arith), sets-below vs xs at (k + 1) 0 (omega arith))
-
-  pub word16-sets-above : at + length vs ≤ k → word16At (sets xs at vs) k ≡ word16At xs k
-  unfolding word16At
-  word16-sets-above h = omega (arith, sets-above vs xs at k 0 (omega arith), sets-above vs xs at (k + 1) 0 (omega arith))
-
-  pub word32-sets-below : k + 4 ≤ at → word32At (sets xs at vs) k ≡ word32At xs k
-  unfolding word32At
-  word32-sets-below h =
-      omega (
-        arith,
-        sets-below vs xs at k 0 (omega arith),
-        sets-below vs xs at (k + 1) 0 (omega arith),
-        sets-below vs xs at (k + 2) 0 (omega arith),
-        sets-below vs xs at (k + 3) 0 (omega arith),
-      )
-
-  pub word32-sets-above : at + length vs ≤ k → word32At (sets xs at vs) k ≡ word32At xs k
-  unfolding word32At
-  word32-sets-above h =
-      omega (
-        arith,
-        sets-above vs xs at k 0 (omega arith),
-        sets-above vs xs at (k + 1) 0 (omega arith),
-        sets-above vs xs at (k + 2) 0 (omega arith),
-        sets-above vs xs at (k + 3) 0 (omega arith),
-      )
-
--- stores of bytes keep the list one of bytes
-pub bytes-set : (xs : List ℕ) (at v : ℕ) → Bytes xs → v < 256 → Bytes (set xs at v)
-bytes-set [] at v b h k = b k
-bytes-set (x ∷ xs) zero v b h zero = h
-bytes-set (x ∷ xs) zero v b h (suc k) = b (suc k)
-bytes-set (x ∷ xs) (suc at) v b h zero = b zero
-bytes-set (x ∷ xs) (suc at) v b h (suc k) = bytes-set xs at v (λ j. b (suc j)) h k
-
-pub bytes-sets : (vs xs : List ℕ) (at : ℕ) → Bytes xs → Bytes vs → Bytes (sets xs at vs)
-bytes-sets [] xs at b c = b
-bytes-sets (v ∷ vs) xs at b c = bytes-sets vs (set xs at v) (suc at) (bytes-set xs at v b (c zero)) (λ k. c (suc k))
-
-pub bytes2-bytes : (v : ℕ) → Bytes (bytes2 v)
-unfolding bytes2
-bytes2-bytes v zero = omega arith
-bytes2-bytes v (suc zero) = omega arith
-bytes2-bytes v (suc (suc k)) = omega arith
-
-pub bytes4-bytes : (v : ℕ) → Bytes (bytes4 v)
-unfolding bytes4
-bytes4-bytes v zero = omega arith
-bytes4-bytes v (suc zero) = omega arith
-bytes4-bytes v (suc (suc zero)) = omega arith
-bytes4-bytes v (suc (suc (suc zero))) = omega arith
-bytes4-bytes v (suc (suc (suc (suc k)))) = omega arith
-
+-- a word of the working room that was put there
 module _ (xs : List ℕ) (at v : ℕ) where
-  pub read-written16 : v < 65536 → at + 2 ≤ length xs → word16At (sets xs at (bytes2 v)) at ≡ v
-  unfolding word16At bytes2
-  read-written16 small fits =
-      let w = bytes2 v in
-      omega (arith, rw add-zero at (sets-within w xs at 0 0 (omega arith) fits), sets-within w xs at 1 0 (omega arith) fits)
-
-  pub read-written32 : v < 4294967296 → at + 4 ≤ length xs → word32At (sets xs at (bytes4 v)) at ≡ v
-  unfolding word32At bytes4
-  read-written32 small fits =
-      let w = bytes4 v in
-      let top : v / 16777216 % 256 ≡ v / 16777216 = omega arith in
-      let first : getD (sets xs at w) at 0 ≡ v / 16777216 = rw add-zero at (sets-within w xs at 0 0 (omega arith) fits) ∙ top in
-      omega (
-        arith,
-        sets-within w xs at 1 0 (omega arith) fits,
-        sets-within w xs at 2 0 (omega arith) fits,
-        sets-within w xs at 3 0 (omega arith) fits,
-      )
-
   pub read-written-low32 : v < 4294967296 → at + 4 ≤ length xs → low32At (sets xs at (lowBytes4 v)) at ≡ v
   unfolding low32At lowBytes4
   read-written-low32 small fits =
@@ -382,23 +302,9 @@ module _ (xs : List ℕ) (at v : ℕ) where
       let last : getD (sets xs at w) (at + 3) 0 ≡ v / 16777216 = sets-within w xs at 3 0 (omega arith) fits ∙ top in
       omega (arith, sets-within w xs at 1 0 (omega arith) fits, sets-within w xs at 2 0 (omega arith) fits)
 
-  pub written16-below : (j d : ℕ) → j < at → getD (sets xs at (bytes2 v)) j d ≡ getD xs j d
-  written16-below j d h = sets-below (bytes2 v) xs at j d h
-
-  pub written16-above : (j d : ℕ) → at + 2 ≤ j → getD (sets xs at (bytes2 v)) j d ≡ getD xs j d
-  unfolding bytes2
-  written16-above j d h = sets-above (bytes2 v) xs at j d h
-
   pub written-low32-below : (j d : ℕ) → j < at → getD (sets xs at (lowBytes4 v)) j d ≡ getD xs j d
   written-low32-below j d h = sets-below (lowBytes4 v) xs at j d h
 
   pub written-low32-above : (j d : ℕ) → at + 4 ≤ j → getD (sets xs at (lowBytes4 v)) j d ≡ getD xs j d
   unfolding lowBytes4
   written-low32-above j d h = sets-above (lowBytes4 v) xs at j d h
-
-  pub written32-below : (j d : ℕ) → j < at → getD (sets xs at (bytes4 v)) j d ≡ getD xs j d
-  written32-below j d h = sets-below (bytes4 v) xs at j d h
-
-  pub written32-above : (j d : ℕ) → at + 4 ≤ j → getD (sets xs at (bytes4 v)) j d ≡ getD xs j d
-  unfolding bytes4
-  written32-above j d h = sets-above (bytes4 v) xs at j d h
