@@ -12,7 +12,7 @@ use Rattle.meaning.specs.RowOperations.{deletes, updates, rowAt}
 use Rattle.meaning.specs.Processing.Actions.{operate, fails, deleteAll, updatedRow, updatesOf, updateAll}
 use Rattle.meaning.specs.Trace.{OnlyIn}
 use Rattle.meaning.proofs.Lookups.{found-so}
-use Rattle.meaning.proofs.Made.{Proper}
+use Rattle.meaning.specs.Made.{Proper}
 use Rattle.meaning.proofs.Images.{rising-proper}
 use Rattle.meaning.proofs.ActionsFit.{updatedRow-only}
 use Rattle.words.specs.Words.{Bytes, low32At}

@@ -13,8 +13,10 @@ use Rattle.meaning.specs.Base.{maybe, eachOr}
 use Rattle.meaning.specs.Covers.{Row, Query, Term, Expression, insertFromQuery, deleteRows, updateRows}
 use Rattle.meaning.specs.Processing.Queries.{chosen, workOut, workOutAll}
 use Rattle.meaning.specs.Processing.Actions.{perform, rowsOf, insertAll, deleteAll, updatedRow, masked, fails}
-use Rattle.meaning.proofs.Lists.{clash, same-some, Each, noElement, anElement}
-use Rattle.meaning.proofs.ActionsFit.{Taken, each-result, chosen-taken}
+use Rattle.meaning.proofs.Lists.{clash, same-some}
+use Rattle.meaning.specs.Base.{Each, noElement, anElement}
+use Rattle.meaning.proofs.ActionsFit.{each-result, chosen-taken}
+use Rattle.meaning.specs.Made.{Taken}
 use Rattle.words.specs.Words.{Bytes}
 use Rattle.slots.specs.declared.Slot.{Slot}
 use Rattle.slots.specs.Slots.{tableAt}

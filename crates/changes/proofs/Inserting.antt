@@ -15,7 +15,7 @@ use Rattle.meaning.specs.RowOperations.{RowOperation, inserts, deletes}
 use Rattle.meaning.specs.Processing.{State}
 use Rattle.meaning.specs.Processing.Actions.{Result, went, newRows, insertAll}
 use Rattle.meaning.specs.Processing.Actions as Actions
-use Rattle.meaning.proofs.Made.{Proper}
+use Rattle.meaning.specs.Made.{Proper}
 use Rattle.words.specs.Words.{Bytes, low32At}
 use Rattle.words.proofs.Laws.{low32-lt}
 use Rattle.slots.specs.declared.Slot.{Slot}

@@ -10,7 +10,7 @@ use Rattle.meaning.specs.Covers.{Image}
 use Rattle.meaning.specs.RowOperations.{RowOperation}
 use Rattle.meaning.specs.Processing.{State}
 use Rattle.meaning.specs.Processing.Actions.{Result, went}
-use Rattle.meaning.proofs.Made.{Fits, Made, more, Made.none as noneMade}
+use Rattle.meaning.specs.Made.{Fits, Made, more, Made.none as noneMade}
 use Rattle.meaning.proofs.Lookups.{made-append}
 use Rattle.slots.specs.declared.Slot.{Slot}
 use Rattle.room.specs.Room.{INSERTED, STRETCH, END, Kept}

@@ -2,7 +2,7 @@
 ghost use mathlib.Core.Path.{_≡_};
 ghost use Prim.Native.Nat.{_≤_};
 ghost use Rattle.meaning.specs.Processing.Actions.{deleteAll, insertAll, updateAll};
-ghost use Rattle.meaning.proofs.ActionsFit.{Taken};
+ghost use Rattle.meaning.specs.Made.{Taken};
 ghost use Rattle.slots.specs.Slots.{tableAt};
 ghost use Rattle.room.specs.Room.{CHOSEN, WORKED, liveRows, rowsMeant};
 ghost use Rattle.room.specs.Represents.{Running};

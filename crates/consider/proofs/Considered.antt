@@ -28,7 +28,8 @@ use Rattle.room.specs.Drawn.{drawnFor, Drew}
 use Rattle.room.specs.Represents.{Settled, Reached}
 use Rattle.room.proofs.Kept.{kept-trans}
 use Rattle.room.proofs.Draws.{drawn-whole}
-use Rattle.room.proofs.Marks.{seen, reached-seen, drew}
+use Rattle.room.proofs.Marks.{reached-seen, drew}
+use Rattle.room.specs.Represents.{seen}
 use Rattle.room.proofs.Steps.{madeAll-none}
 use Rattle.transition.proofs.Afterwards.{transition-watch}
 use Rattle.changes.specs.declared.Step.{Step}

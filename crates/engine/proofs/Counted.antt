@@ -7,8 +7,8 @@ use native.Mathlib.Omega.{arith}
 use lib.Dec.{ltb}
 use lib.ListN.{length}
 use Rattle.meaning.specs.Covers.{mostSteps}
-use Rattle.meaning.specs.EntryPoints.{run, settled, answerOf, countOf, verdict, runOutput, workingRoom}
-use Rattle.meaning.specs.Theorems.{Spoken, isRefused, isAccepted}
+use Rattle.meaning.specs.EntryPoints.{run, resultOf, answerOf, countOf, verdict, runOutput, workingRoom}
+use Rattle.meaning.specs.Runs.{Spoken, isRefused, isAccepted}
 use Rattle.meaning.proofs.RunsFit.{run-limit}
 use Rattle.meaning.proofs.Theorems.{every-run, ends}
 use Rattle.engine.specs.Answers.{answerMeant, Runs}
@@ -24,7 +24,7 @@ verdict-counted image book log = go (every-run image book log)
     go (isAccepted a e) = rw e (omega (arith, ends a .counted, run-limit a))
 
 pub run-counted : (image book log output room : List ℕ) → countOf (run image book log output room .answer) ≤ mostSteps
-unfolding run settled countOf answerOf
+unfolding run resultOf countOf answerOf
 run-counted image book log output room = go (ltb (length output) runOutput) refl (ltb (length room) workingRoom) refl
   where
     go : (t : Bool) → ltb (length output) runOutput ≡ t → (u : Bool) → ltb (length room) workingRoom ≡ u

@@ -13,7 +13,7 @@ use Rattle.meaning.specs.Covers.{Image}
 use Rattle.meaning.specs.ByteLayouts as ByteLayouts
 use Rattle.meaning.specs.Processing.{Ending}
 use Rattle.meaning.specs.EntryPoints as EntryPoints
-use Rattle.meaning.specs.EntryPoints.{run, settled, answerOf, written, cleared, workingRoom, verdict, withBook, refused, accepted}
+use Rattle.meaning.specs.EntryPoints.{run, resultOf, answerOf, written, cleared, workingRoom, verdict, withBook, refused, accepted}
 use Rattle.meaning.specs.EntryPoints.{judgeBook, refusedBook, imageMalformed, logMalformed}
 use Rattle.image.specs.Images as Images
 use Rattle.image.specs.Images.{imageOr}
@@ -27,8 +27,8 @@ use Rattle.plan.specs.Plans.{Planned}
 use Rattle.plan.specs.declared.Plan.{Plan}
 use Rattle.trigger.specs.Triggers.{orderIn}
 use Rattle.processing.specs.declared.Ended.{Ended}
-use Rattle.transaction.specs.Transacts.{Accepts, HandsBack, endingOf}
-use Rattle.transaction.specs.declared.Accepted.{Accepted}
+use Rattle.transaction.specs.Transacts.{Accepts, HandsBack, endingFrom}
+use Rattle.transaction.specs.declared.ReadOff.{ReadOff}
 use Rattle.engine.specs.Answers.{refusalMeant, answerMeant, Runs}
 use Rattle.engine.specs.declared.Refusal.{Refusal}
 use Rattle.engine.specs.declared.Refusal.the-variants.{Output, Room}
@@ -50,7 +50,7 @@ image-told s t is = rw is at t
 -- ---- A well-formed image
 
 -- what was read off image, book and log
-abbrev pub read-off : ℕ → ℕ → Plan → ℕ → ℕ → Accepted
+abbrev pub read-off : ℕ → ℕ → Plan → ℕ → ℕ → ReadOff
 read-off next rows plan limit operations =
     record { next = next; rows = rows; plan = plan; limit = limit; operations = operations }
 
@@ -77,30 +77,30 @@ module _ (image book log : List ℕ) (next rows : ℕ) (i : Images.WellFormed im
 
     pub log-accepted : (start : Image) → readAll ByteLayouts.image image ≡ some start → (r : LogRead) (operations : ℕ)
         → logOr log r ≡ readAll ByteLayouts.log log → r ≡ logRead.Is operations
-        → verdict image book log ≡ accepted start (endingOf book log (read-off next rows plan limit operations) start)
-    unfolding verdict withBook logOr endingOf orderIn
+        → verdict image book log ≡ accepted start (endingFrom book log (read-off next rows plan limit operations) start)
+    unfolding verdict withBook logOr endingFrom orderIn
     log-accepted start s r operations e is = rw (p .count, s, with-order book limit n plan b p found, ← e, is)
 
 -- ---- A run
 
 module _ {image book log before xs : List ℕ} where
   pub output-refused : length before < 1355 → Runs image book log before before xs xs (Refused Output)
-  unfolding run settled answerOf written cleared answerMeant refusalMeant
+  unfolding run resultOf answerOf written cleared answerMeant refusalMeant
   output-refused h = record { result = rw (lt-ltb _ _ h) }
 
   pub room-refused : 1355 ≤ length before → length xs < 65536 → Runs image book log before before xs xs (Refused Room)
-  unfolding run settled answerOf written cleared answerMeant refusalMeant
+  unfolding run resultOf answerOf written cleared answerMeant refusalMeant
   room-refused o h = record { result = rw (le-ltb _ _ o, lt-ltb _ _ h) }
 
   -- output and room are long enough
   module _ (o : 1355 ≤ length before) (h : 65536 ≤ length xs) where
     pub run-refused : (r : Refusal) → verdict image book log ≡ refused (refusalMeant r)
         → Runs image book log before before xs xs (Refused r)
-    unfolding run settled answerOf written cleared answerMeant
+    unfolding run resultOf answerOf written cleared answerMeant
     run-refused r v = record { result = rw (le-ltb _ _ o, le-ltb _ _ h, v) }
 
     pub run-accepted : {start : Image} {e : Ending} → verdict image book log ≡ accepted start e → {after ys : List ℕ} {r : Ended}
         → HandsBack before after start e r → ys ≡ inFrontOf (replicate workingRoom 0) xs
         → Runs image book log before after xs ys (Ran (r .outcome) (r .count))
-    unfolding run settled answerOf written cleared answerMeant
+    unfolding run resultOf answerOf written cleared answerMeant
     run-accepted v b c = record { result = rw (le-ltb _ _ o, le-ltb _ _ h, v, b .outcome, b .count, b .output, c) }

@@ -10,8 +10,8 @@ use lib.ListN.{length, drop, length-append, length-drop, length-replicate}
 use Rattle.meaning.specs.Base.{inFrontOf}
 use Rattle.meaning.specs.Covers.{Outcome, commit, rolledBack, stepLimit, failed}
 use Rattle.meaning.specs.ByteLayouts.{imageBytes}
-use Rattle.meaning.specs.EntryPoints.{run, settled, written, cleared, handedBack, verdict, runOutput, workingRoom}
-use Rattle.meaning.specs.Theorems.{Accepted, endingOf, Spoken, isRefused, isAccepted}
+use Rattle.meaning.specs.EntryPoints.{run, resultOf, written, cleared, handedBack, verdict, runOutput, workingRoom}
+use Rattle.meaning.specs.Runs.{Accepted, endingOf, Spoken, isRefused, isAccepted}
 use Rattle.meaning.proofs.RunsFit.{run-sound, run-end-sound}
 use Rattle.meaning.proofs.WrittenRead.{image-fits}
 use Rattle.meaning.proofs.Theorems.{every-run}
@@ -42,7 +42,7 @@ verdict-fits image book log = go (every-run image book log)
 
 pub run-kept : (image book log output room : List ℕ)
     → (length (run image book log output room .output) ≡ length output) × (length (run image book log output room .room) ≡ length room)
-unfolding run settled written cleared
+unfolding run resultOf written cleared
 run-kept image book log output room = go (ltb (length output) runOutput) refl (ltb (length room) workingRoom) refl
   where
     go : (t : Bool) → ltb (length output) runOutput ≡ t → (u : Bool) → ltb (length room) workingRoom ≡ u

@@ -10,7 +10,7 @@ use book::BookRead;
 use image::ImageRead;
 use log::LogRead;
 use processing::Outcome;
-use transaction::Accepted;
+use transaction::ReadOff;
 
 // The refusals, in the order in which they are tried.
 pub enum Refusal {
@@ -72,7 +72,7 @@ pub fn run(image: &[u8], book: &[u8], log: &[u8], out: &mut [u8], room: &mut [u8
                 }
                 match log::judge(log) {
                     LogRead::Is { count: operations } => {
-                        let a = Accepted {
+                        let a = ReadOff {
                             next,
                             rows,
                             plan,

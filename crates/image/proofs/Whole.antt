@@ -17,7 +17,7 @@ use Rattle.meaning.specs.Covers as Covers
 use Rattle.meaning.specs.Covers.{Image, mostRows}
 use Rattle.meaning.specs.ByteLayouts as ByteLayouts
 use Rattle.meaning.specs.ByteLayouts.{framed, row, rising, bytes2, bytes4, rowBytes, rowsBytes}
-use Rattle.meaning.proofs.Lists.{Each, noElement, anElement}
+use Rattle.meaning.specs.Base.{Each, noElement, anElement}
 use Rattle.meaning.proofs.Parsing.{Spans, spans-as, spans-then, spans-take, on-from-got, same-value, same-place}
 use Rattle.meaning.proofs.Parsing.{must-got, number16-reads, number32-reads, length-bytes2, length-bytes4, read-all, framed-got}
 use Rattle.meaning.proofs.RoundTrip.{FitRow, row-reads, rows-read, imageFields}

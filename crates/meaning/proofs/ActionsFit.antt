@@ -23,9 +23,10 @@ use Rattle.meaning.specs.Processing.Queries.{cell, sourceRows, allHold, 
 use Rattle.meaning.specs.Processing.Actions.{Result, went, ends, following, andThen, fails, newRows, insertAll, deleteAll, masked}
 use Rattle.meaning.specs.Processing.Actions.{updatedRow, updatesOf, updateAll, operate, rowsOf, perform}
 use Rattle.meaning.specs.Trace.{OnlyIn}
-use Rattle.meaning.proofs.Made.{InRange, Proper, Rising, noRow, above, Sound, insertFits, deleteFits, updateFits, Made}
-use Rattle.meaning.proofs.Made as Of
-use Rattle.meaning.proofs.Lists.{clash, same-some, Each, noElement, anElement, each-select, eqb-self}
+use Rattle.meaning.specs.Made.{InRange, Proper, Rising, noRow, above, Sound, insertFits, deleteFits, updateFits, Made, Taken, noneTaken, oneTaken}
+use Rattle.meaning.specs.Made as Of
+use Rattle.meaning.proofs.Lists.{clash, same-some, each-select, eqb-self}
+use Rattle.meaning.specs.Base.{Each, noElement, anElement}
 use Rattle.meaning.proofs.Lookups.{rowAt-head, rowAt-skip, found-so, found-handle, rowAt-without-other, rowAt-withRow-other}
 use Rattle.meaning.proofs.Lookups.{made-append}
 use Rattle.meaning.proofs.Images.{rising-proper, makeAll-sound}
@@ -113,11 +114,6 @@ insertAll-made t vss m l fs =
     wentMade (inserts-made t vss m l fs (ltb-false _ _ room) (ltb-false _ _ left))))
 
 -- ---- Rows that are taken from an image: proper, live, by rising handle
-
-pub data Taken (rows : List Row) : ℕ → List Row → Type 0 where
-  noneTaken : {low : ℕ} → Taken rows low []
-  oneTaken : {low : ℕ} {r : Row} {rs : List Row} → low < r .handle → Proper r → rowAt (r .handle) rows ≡ some r → Taken rows (r .handle) rs
-      → Taken rows low (r ∷ rs)
 
 taken-lower : {rows rs : List Row} {low low′ : ℕ} → low′ ≤ low → Taken rows low rs → Taken rows low′ rs
 taken-lower l noneTaken = noneTaken

@@ -15,7 +15,7 @@ use Rattle.meaning.specs.RowOperations.{RowOperation, Effect, NetEffect,
 use Rattle.meaning.specs.Trace.{Differs, stays, comes, goes, changes}
 use Rattle.meaning.proofs.Lists.{true-is-false, or-cases, clash, any-front, any-back, has, eqb-self, Distinct, noNumber, another}
 use Rattle.meaning.proofs.Lists.{no-longer}
-use Rattle.meaning.proofs.Made.{Sound, Made}
+use Rattle.meaning.specs.Made.{Sound, Made}
 use Rattle.meaning.proofs.Lookups.{Look, head, later, look, rowAt-none}
 use Rattle.meaning.proofs.NetEffects.{Listed, noEntry, oneEntry, says-net, netEffect-listed}
 use Rattle.meaning.proofs.Lives.{differs}

@@ -15,7 +15,8 @@ use Rattle.meaning.specs.Processing.{State, Ending, ended, afterEvents}
 use Rattle.meaning.specs.EntryPoints.{accepted, JudgedBook, refusedBook, acceptedBook, judgeBook, withBook, verdict, imageMalformed}
 use Rattle.meaning.specs.EntryPoints.{logMalformed, outcomeNumber, failureNumber, reasonNumber, handedBack, written}
 use Rattle.meaning.specs.Trace.{considerationsIn}
-use Rattle.meaning.specs.Theorems.{Accepted, endingOf, Spoken, isRefused, isAccepted, EveryRun, Ends, Determined}
+use Rattle.meaning.specs.Theorems.{EveryRun, Ends, Determined}
+use Rattle.meaning.specs.Runs.{Accepted, endingOf, Spoken, isRefused, isAccepted}
 use Rattle.meaning.proofs.RoundTrip.{round-trip}
 use Rattle.meaning.proofs.Traces.{considerations-append, considerations-made, one-consideration, Steps, commits, meetsLimit}
 use Rattle.meaning.proofs.Traces.{endsRun, goesOn, Runs, logEnds, logDone}

@@ -17,9 +17,11 @@ use Rattle.meaning.specs.Processing.TransitionTables.{Transition, wakes,
 use Rattle.meaning.specs.Processing.Queries.{chosen}
 use Rattle.meaning.specs.Trace.{operationsIn, considerationsIn, sinceLast, Rest, further, atCommit, atLimit, Makes}
 use Rattle.meaning.specs.Trace as Trace
-use Rattle.meaning.specs.Theorems.{Accepted, endingOf, Given, Conditions}
-use Rattle.meaning.proofs.Lists.{same-some, or-false, any-append, not-empty, Each, has, has-none, none-earlier}
-use Rattle.meaning.proofs.Made.{Sound}
+use Rattle.meaning.specs.Theorems.{Given, Conditions}
+use Rattle.meaning.specs.Runs.{Accepted, endingOf}
+use Rattle.meaning.proofs.Lists.{same-some, or-false, any-append, not-empty, has, has-none, none-earlier}
+use Rattle.meaning.specs.Base.{Each}
+use Rattle.meaning.specs.Made.{Sound}
 use Rattle.meaning.proofs.Orders.{total-order}
 use Rattle.meaning.proofs.Traces.{Along, along-each, made-only, behind, considerations-append, considerations-made}
 use Rattle.meaning.proofs.Traces.{one-consideration, Steps, commits, meetsLimit, endsRun, goesOn, Runs, logEnds, logDone}

@@ -11,9 +11,9 @@ use borrow.Author.Tests.{eqb-true}
 use Rattle.meaning.specs.Base.{if_then_else_}
 use Rattle.meaning.specs.Covers.{Row, Image}
 use Rattle.meaning.specs.RowOperations.{RowOperation, without, withRow, make, makeAll}
-use Rattle.meaning.proofs.Lists.{Each, noElement, anElement}
-use Rattle.meaning.proofs.Made.{Proper, Rising, noRow, above, Sound, Fits, insertFits, deleteFits, updateFits, Made}
-use Rattle.meaning.proofs.Made as Of
+use Rattle.meaning.specs.Base.{Each, noElement, anElement}
+use Rattle.meaning.specs.Made.{Proper, Rising, noRow, above, Sound, Fits, insertFits, deleteFits, updateFits, Made}
+use Rattle.meaning.specs.Made as Of
 
 -- ---- Rows that rise
 

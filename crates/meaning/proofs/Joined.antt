@@ -11,8 +11,9 @@ use Rattle.meaning.specs.Covers.{Image}
 use Rattle.meaning.specs.RowOperations.{RowOperation, nothing, join, joinedOn, net, effectAt, makeAll}
 use Rattle.meaning.specs.Processing.{Event, made, considered}
 use Rattle.meaning.specs.Trace.{operationsIn, sinceLast, givenTo, joinedIn}
-use Rattle.meaning.specs.Theorems.{Accepted, endingOf, Joined, Reachable}
-use Rattle.meaning.proofs.Made.{Sound, Made}
+use Rattle.meaning.specs.Theorems.{Joined, Reachable}
+use Rattle.meaning.specs.Runs.{Accepted, endingOf}
+use Rattle.meaning.specs.Made.{Sound, Made}
 use Rattle.meaning.proofs.Lookups.{made-front, made-back}
 use Rattle.meaning.proofs.NetEffects.{says-net}
 use Rattle.meaning.proofs.Lives.{net-append, never-marked, never-marked-stretch}

@@ -2,7 +2,6 @@
 -- Tools
 pub mod Lists
 -- Images, and operations that fit them
-pub mod Made
 pub mod Lookups
 pub mod Images
 -- Images as bytes (2)

@@ -10,7 +10,7 @@ use native.Mathlib.Omega.{arith}
 use lib.Dec.{eqb}
 use lib.ListN.{length, drop, getElem?}
 use borrow.Author.Tests.{eqb-true, eqb-false, eq-eqb}
-use Rattle.meaning.specs.Base.{if_then_else_, upFrom, any, all, select, firstWith}
+use Rattle.meaning.specs.Base.{if_then_else_, upFrom, any, all, select, firstWith, Each, noElement, anElement}
 
 -- ---- Bools
 
@@ -56,10 +56,6 @@ there-below (y ∷ ys) zero x q = omega arith
 there-below (y ∷ ys) (suc k) x q = let h = there-below ys k x q in omega arith
 
 -- ---- Lists of which each element is so
-
-pub data Each {A : Type 0} (P : A → Type 0) : List A → Type 0 where
-  noElement : Each P []
-  anElement : {x : A} {xs : List A} → P x → Each P xs → Each P (x ∷ xs)
 
 module _ {A : Type 0} {P : A → Type 0} where
   pub each-select : {xs : List A} (p : A → Bool) → Each P xs → Each P (select p xs)

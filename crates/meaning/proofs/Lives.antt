@@ -16,7 +16,7 @@ use Rattle.meaning.specs.RowOperations.{inserted, deleted, updated, unre
 use Rattle.meaning.specs.RowOperations.{effectOf, single, joinedOn, net}
 use Rattle.meaning.specs.Trace.{union, maskOn, masksOn, deletedIn, fromOutside, OnlyIn, Differs, stays, comes, goes, changes}
 use Rattle.meaning.specs.Theorems.{reachable}
-use Rattle.meaning.proofs.Made.{Sound, Fits, insertFits, deleteFits, updateFits, Made, more, Made.none as noneMade}
+use Rattle.meaning.specs.Made.{Sound, Fits, insertFits, deleteFits, updateFits, Made, more, Made.none as noneMade}
 use Rattle.meaning.proofs.Lists.{clash, eqb-self}
 use Rattle.meaning.proofs.Masks.{or-assoc, bit-or}
 use Rattle.meaning.proofs.JoinTable.{join-nothing}

@@ -10,9 +10,10 @@ use lib.Dec.{eqb}
 use borrow.Author.Tests.{eqb-true, eqb-false, eq-eqb, ne-eqb}
 use Rattle.meaning.specs.Covers.{Row, Image}
 use Rattle.meaning.specs.RowOperations.{RowOperation, inserts, deletes, updates, handleOf, rowAt, without, withRow, make, makeAll}
-use Rattle.meaning.proofs.Lists.{clash, Each, noElement, anElement, eqb-self}
-use Rattle.meaning.proofs.Made.{Rising, noRow, above, Sound, Fits, insertFits, deleteFits, updateFits, Made, more}
-use Rattle.meaning.proofs.Made.{Made.none as noneMade}
+use Rattle.meaning.proofs.Lists.{clash, eqb-self}
+use Rattle.meaning.specs.Base.{Each, noElement, anElement}
+use Rattle.meaning.specs.Made.{Rising, noRow, above, Sound, Fits, insertFits, deleteFits, updateFits, Made, more}
+use Rattle.meaning.specs.Made.{Made.none as noneMade}
 
 -- ---- A lookup in a list with a head
 

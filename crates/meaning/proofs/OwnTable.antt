@@ -9,26 +9,15 @@ use lib.Dec.{eqb}
 use lib.ListN.{length}
 use Rattle.meaning.specs.Base.{if_then_else_, bit, any, select, gather}
 use Rattle.meaning.specs.Covers.{Row, Rule, Image}
-use Rattle.meaning.specs.RowOperations.{RowOperation, rowAt, makeAll, Effect, nothing}
+use Rattle.meaning.specs.RowOperations.{RowOperation, rowAt, makeAll, Effect, nothing, onTable, ownOf}
 use Rattle.meaning.specs.RowOperations.{inserted, deleted, updated, NetEffect, net, named, entry, entries, netEffect}
 use Rattle.meaning.specs.Processing.TransitionTables.{ownTable, meets, wakes, ownRow, deletedRow, oldRow, liveRow}
 use Rattle.meaning.specs.Processing.TransitionTables.{insertedRow, newRow, transition}
 use Rattle.meaning.specs.Trace.{Differs, stays, comes, goes, changes}
-use Rattle.meaning.proofs.Lists.{Each, noElement, anElement}
-use Rattle.meaning.proofs.Made.{Sound, Made}
+use Rattle.meaning.specs.Base.{Each, noElement, anElement}
+use Rattle.meaning.specs.Made.{Sound, Made}
 use Rattle.meaning.proofs.NetEffects.{Listed, noEntry, oneEntry}
 use Rattle.meaning.proofs.Lives.{differs}
-
--- an effect is on a table
-unfoldable pub onTable : ℕ → Effect → Bool
-onTable t nothing = false
-onTable t (inserted u) = eqb u t
-onTable t (deleted r) = eqb (r .table) t
-onTable t (updated m r) = eqb (r .table) t
-
--- what a net effect says of the rows of a table
-unfoldable pub ownOf : ℕ → NetEffect → NetEffect
-ownOf t es = select (λ p. onTable t (p .1)) es
 
 -- ---- Its shape
 

@@ -19,7 +19,8 @@ use Rattle.meaning.specs.Reading.{Read, bad, got, Parser, onFrom, must, 
 use Rattle.meaning.specs.Reading.{readAll, valueOf}
 use Rattle.meaning.specs.Values.{signed, unsigned}
 use Rattle.meaning.specs.ByteLayouts.{value, framed, bytes2, bytes4}
-use Rattle.meaning.proofs.Lists.{and-true, Each, noElement, anElement}
+use Rattle.meaning.proofs.Lists.{and-true}
+use Rattle.meaning.specs.Base.{Each, noElement, anElement}
 
 -- ---- Bytes in a slice
 

@@ -13,10 +13,11 @@ use Rattle.meaning.specs.RowOperations.{netEffect}
 use Rattle.meaning.specs.Processing.{State, Event, Ending, ended, afterEvents, waits, triggered, consideration, firstTriggered}
 use Rattle.meaning.specs.Processing.TransitionTables.{wakes}
 use Rattle.meaning.specs.Trace.{sinceLast}
-use Rattle.meaning.specs.Theorems.{Accepted, endingOf}
-use Rattle.meaning.proofs.Lists.{there-below, Each, has-none}
+use Rattle.meaning.specs.Runs.{Accepted, endingOf}
+use Rattle.meaning.proofs.Lists.{there-below, has-none}
+use Rattle.meaning.specs.Base.{Each}
 use Rattle.meaning.proofs.Orders.{in-order}
-use Rattle.meaning.proofs.Made.{Sound}
+use Rattle.meaning.specs.Made.{Sound}
 use Rattle.meaning.proofs.Traces.{Steps, commits, meetsLimit, endsRun, goesOn, Runs, logEnds, logDone}
 use Rattle.meaning.proofs.ActionsFit.{GoodOperation, Breaks, byRollback, byFailure}
 use Rattle.meaning.proofs.StepsFit.{GoodRule, Built, built-moved, consider-ends, built-log, log-ends}
@@ -40,19 +41,19 @@ module _ (rules : List Rule) (order : List ℕ) where
     pub search : firstTriggered rules order state ≡ some rule
     pub spent : count ≡ limit
 
-  pub data Ended (limit : ℕ) (trace : List Event) : Outcome → ℕ → Type 0 where
-    settled : {n : ℕ} → AtCommit trace → Ended limit trace commit n
-    limited : {n : ℕ} → AtLimit limit trace n → Ended limit trace stepLimit n
-    broken : {o : Outcome} {n : ℕ} → Breaks o → Ended limit trace o n
+  pub data Stopped (limit : ℕ) (trace : List Event) : Outcome → ℕ → Type 0 where
+    settled : {n : ℕ} → AtCommit trace → Stopped limit trace commit n
+    limited : {n : ℕ} → AtLimit limit trace n → Stopped limit trace stepLimit n
+    broken : {o : Outcome} {n : ℕ} → Breaks o → Stopped limit trace o n
 
   module _ {limit : ℕ} {trace : List Event} where
-    pub at-commit : {o : Outcome} {n : ℕ} → Ended limit trace o n → o ≡ commit → AtCommit trace
+    pub at-commit : {o : Outcome} {n : ℕ} → Stopped limit trace o n → o ≡ commit → AtCommit trace
     at-commit (settled s) e = s
     at-commit (limited s) e = absurd (let z : _≡_ {A = ℕ} 0 1 = cc in omega arith)
     at-commit (broken byRollback) e = absurd (let z : _≡_ {A = ℕ} 0 1 = cc in omega arith)
     at-commit (broken byFailure) e = absurd (let z : _≡_ {A = ℕ} 0 1 = cc in omega arith)
 
-    pub at-limit : {o : Outcome} {n : ℕ} → Ended limit trace o n → o ≡ stepLimit → AtLimit limit trace n
+    pub at-limit : {o : Outcome} {n : ℕ} → Stopped limit trace o n → o ≡ stepLimit → AtLimit limit trace n
     at-limit (settled s) e = absurd (let z : _≡_ {A = ℕ} 0 1 = cc in omega arith)
     at-limit (limited s) e = s
     at-limit (broken byRollback) e = absurd (let z : _≡_ {A = ℕ} 0 1 = cc in omega arith)
@@ -61,7 +62,7 @@ module _ (rules : List Rule) (order : List ℕ) where
   module _ (start : Image) (good : Each GoodRule rules) (sound : Sound start) where
     steps-end : {limit left count : ℕ} {s : State} {e : Ending} {past : List Event} → Steps rules order left count s e
         → Built rules order start good sound s → Follows rules past s → count + left ≡ limit
-        → Ended limit (past ++ e .trace) (e .outcome) (e .count)
+        → Stopped limit (past ++ e .trace) (e .outcome) (e .count)
     unfolding ended afterEvents
     steps-end (commits {s = s} t) b f l = settled (record { state = s; follows = rw append-nil f; search = t })
     steps-end (meetsLimit {count = n} {k = k} {s = s} t) b f l =
@@ -72,7 +73,7 @@ module _ (rules : List Rule) (order : List ℕ) where
         (steps-end more (built-moved rules order start good sound b k c) (follows-considered rules order new f t) (omega arith))
 
     runs-end : {limit : ℕ} {log : List LogOperation} {e : Ending} → Each GoodOperation log → Runs rules order limit log start e
-        → Ended limit (e .trace) (e .outcome) (e .count)
+        → Stopped limit (e .trace) (e .outcome) (e .count)
     unfolding ended afterEvents
     runs-end g (logEnds l) = broken (log-ends rules order start good sound g l .0)
     runs-end g (logDone {new = new} l more) =
@@ -81,7 +82,7 @@ module _ (rules : List Rule) (order : List ℕ) where
 -- ---- The statements
 
 module _ {image book log : List ℕ} (a : Accepted image book log) where
-  run-end : Ended (a .ruleBook .rules) (a .order) (a .ruleBook .limit) (endingOf a .trace) (endingOf a .outcome) (endingOf a .count)
+  run-end : Stopped (a .ruleBook .rules) (a .order) (a .ruleBook .limit) (endingOf a .trace) (endingOf a .outcome) (endingOf a .count)
   run-end = runs-end (a .ruleBook .rules) (a .order) (a .start) (run-rules a) (run-sound a) (run-log a) (run-steps a)
 
   pub quiet : endingOf a .outcome ≡ commit → (k : ℕ) (r : Rule) → getElem? (a .ruleBook .rules) k ≡ some r → r .active ≡ true

@@ -16,8 +16,9 @@ use Rattle.meaning.specs.Covers.{mostRows, Row, Image}
 use Rattle.meaning.specs.ByteLayouts
 use Rattle.meaning.specs.ByteLayouts.{framed, value, table, row, rising, bytes2, bytes4, valueBytes, rowBytes, rowsBytes, imageBytes}
 use Rattle.meaning.specs.Theorems.{RoundTrip}
-use Rattle.meaning.proofs.Lists.{and-true, Each, noElement, anElement}
-use Rattle.meaning.proofs.Made.{InRange, Proper, Rising, noRow, above, Sound}
+use Rattle.meaning.proofs.Lists.{and-true}
+use Rattle.meaning.specs.Base.{Each, noElement, anElement}
+use Rattle.meaning.specs.Made.{InRange, Proper, Rising, noRow, above, Sound}
 use Rattle.meaning.proofs.Parsing.{Spans, spans-as, spans-then, spans-first, spans-rest, on-from-got, same-value, same-place}
 use Rattle.meaning.proofs.Parsing.{must-got, Reads, reads-as, byte-reads, number16-reads, number32-reads, value-reads, spread}
 use Rattle.meaning.proofs.Parsing.{many-reads, read-all, framed-got, framed-told}

@@ -21,9 +21,10 @@ use Rattle.meaning.specs.Processing.{Event}
 use Rattle.meaning.specs.Processing.TotalOrder.{totalOrder}
 use Rattle.meaning.specs.EntryPoints.{refusedBook, acceptedBook, judgeBook, bookMalformed, precedesCycle}
 use Rattle.meaning.specs.Trace.{operationsIn, sinceLast}
-use Rattle.meaning.specs.Theorems.{Accepted, endingOf}
-use Rattle.meaning.proofs.Lists.{Each, and-true}
-use Rattle.meaning.proofs.Made.{InRange, Sound, Made}
+use Rattle.meaning.specs.Runs.{Accepted, endingOf}
+use Rattle.meaning.proofs.Lists.{and-true}
+use Rattle.meaning.specs.Base.{Each}
+use Rattle.meaning.specs.Made.{InRange, Sound, Made}
 use Rattle.meaning.proofs.Lookups.{made-front, made-back}
 use Rattle.meaning.proofs.Images.{makeAll-sound}
 use Rattle.meaning.proofs.Parsing.{on-from-got, same-value, read-all, must-got, Reads, value-reads, many-each, framed-got}

@@ -18,9 +18,10 @@ use Rattle.meaning.specs.Processing.TransitionTables.{Transition, meets,
 use Rattle.meaning.specs.Processing.TransitionTables.{newRow, transition}
 use Rattle.meaning.specs.Processing.Actions.{went, ends}
 use Rattle.meaning.specs.Trace.{operationsIn}
-use Rattle.meaning.proofs.Made.{Proper, Sound, deleteFits, updateFits, Made}
-use Rattle.meaning.proofs.Made as Of
-use Rattle.meaning.proofs.Lists.{clash, same-some, Each, noElement, anElement, each-drop, each-element}
+use Rattle.meaning.specs.Made.{Proper, Sound, deleteFits, updateFits, Made}
+use Rattle.meaning.specs.Made as Of
+use Rattle.meaning.proofs.Lists.{clash, same-some, each-drop, each-element}
+use Rattle.meaning.specs.Base.{Each, noElement, anElement}
 use Rattle.meaning.proofs.Lookups.{found-so, makeAll-append, made-append}
 use Rattle.meaning.proofs.Images.{rising-proper, make-sound, makeAll-sound}
 use Rattle.meaning.proofs.Traces.{operations-append, operations-made, Steps, commits, meetsLimit, endsRun, goesOn, Runs, logEnds}

@@ -13,11 +13,12 @@ use Rattle.meaning.specs.Covers.{Image}
 use Rattle.meaning.specs.RowOperations.{RowOperation, Effect, nothing, inserted, deleted, updated, NetEffect, join, net, entry}
 use Rattle.meaning.specs.RowOperations.{netEffect, effectAt}
 use Rattle.meaning.proofs.Lists.{eqb-self}
-use Rattle.meaning.proofs.Made.{Sound, Made}
+use Rattle.meaning.specs.Made.{Sound, Made}
 use Rattle.meaning.proofs.JoinTable.{nothing-join, join-nothing}
 use Rattle.meaning.proofs.NetEffects.{joinInto, Listed, noEntry, oneEntry, entry-listed, says-net, netEffect-listed}
 use Rattle.meaning.proofs.Lives.{OfTable, net-append, same-table}
-use Rattle.meaning.proofs.OwnTable.{onTable, ownOf, own-listed}
+use Rattle.meaning.proofs.OwnTable.{own-listed}
+use Rattle.meaning.specs.RowOperations.{onTable, ownOf}
 
 -- ---- What a list says of a handle
 

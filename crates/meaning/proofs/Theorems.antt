@@ -9,7 +9,7 @@ use Rattle.meaning.specs.RowOperations.{inserts}
 use Rattle.meaning.specs.Processing.{made}
 use Rattle.meaning.specs.EntryPoints.{handedBack, verdict, written}
 use Rattle.meaning.specs.Trace.{operationsIn}
-use Rattle.meaning.specs.Theorems.{Accepted, endingOf}
+use Rattle.meaning.specs.Runs.{Accepted, endingOf}
 use Rattle.meaning.specs.Theorems as Stated
 use Rattle.meaning.proofs.WrittenRead.{rises-true, written-read}
 use Rattle.meaning.proofs.Lookups.{all-next-rises, given-fresh, given-once}

@@ -14,8 +14,8 @@ use Rattle.meaning.specs.Covers.{mostRows, Row, Image}
 use Rattle.meaning.specs.ByteLayouts
 use Rattle.meaning.specs.ByteLayouts.{rising, bytes2, bytes4, valueBytes, rowBytes, rowsBytes, imageBytes}
 use Rattle.meaning.specs.EntryPoints.{runOutput}
-use Rattle.meaning.proofs.Lists.{Each, noElement, anElement}
-use Rattle.meaning.proofs.Made.{Proper, Rising, noRow, above, Sound}
+use Rattle.meaning.specs.Base.{Each, noElement, anElement}
+use Rattle.meaning.specs.Made.{Proper, Rising, noRow, above, Sound}
 use Rattle.meaning.proofs.Parsing.{Spans, spans-first, spans-rest, number16-reads, number32-reads, length-bytes2, length-bytes4}
 use Rattle.meaning.proofs.Parsing.{framed-found}
 use Rattle.meaning.proofs.RoundTrip.{FitRow, rows-read, imageFields, fieldBytes}

@@ -1,4 +1,6 @@
--- General tools, with no meaning of their own: a choice, tests over lists, what an optional value leads to, the bits of a number.
+-- General tools, with no meaning of their own: a choice, tests over lists, what an optional value leads to, the bits of a number, and what
+-- is said of the elements of a list.
+use mathlib.Core.Path.{_≡_}
 use mathlib.Core.Bool.{Bool, true, false, _&&_, _||_}
 use mathlib.Core.List.{List, [], _∷_, _++_}
 use mathlib.Core.Option.{Option, none, some}
@@ -84,3 +86,22 @@ module _ {A B : Type 0} where
   abbrev pub eachOr : (A → Option B) → List A → Option (List B)
   eachOr f [] = some []
   eachOr f (x ∷ xs) = both (f x) (eachOr f xs)
+
+-- ---- What is said of the elements of a list
+
+-- x stands in it
+infix 4 _∈_
+pub data _∈_ {A : Type 0} (x : A) : List A → Type 0 where
+  first : {y : A} {ys : List A} → x ≡ y → x ∈ (y ∷ ys)
+  later : {y : A} {ys : List A} → x ∈ ys → x ∈ (y ∷ ys)
+
+-- P is so of each
+pub data Each {A : Type 0} (P : A → Type 0) : List A → Type 0 where
+  noElement : Each P []
+  anElement : {x : A} {xs : List A} → P x → Each P xs → Each P (x ∷ xs)
+
+-- the second list is the first with exactly those left out of which P is not so, the others in their order
+pub data Picks {A : Type 0} (P : A → Type 0) : List A → List A → Type 0 where
+  noMore : Picks P [] []
+  takes : {x : A} {xs ys : List A} → P x → Picks P xs ys → Picks P (x ∷ xs) (x ∷ ys)
+  leaves : {x : A} {xs ys : List A} → ¬ P x → Picks P xs ys → Picks P (x ∷ xs) ys

@@ -135,14 +135,14 @@ pub record RunResult : Type 0 where
   pub output : List ℕ
   pub room : List ℕ
 
-unfoldable pub settled : Verdict → List ℕ → List ℕ → RunResult
-settled v output room = record { answer = answerOf v; output = inFrontOf (written v) output; room = inFrontOf (cleared v) room }
+unfoldable pub resultOf : Verdict → List ℕ → List ℕ → RunResult
+resultOf v output room = record { answer = answerOf v; output = inFrontOf (written v) output; room = inFrontOf (cleared v) room }
 
 unfoldable pub run : List ℕ → List ℕ → List ℕ → List ℕ → List ℕ → RunResult
 run image book log output room =
-    if ltb (length output) runOutput then settled (refused outputTooShort) output room else
-    if ltb (length room) workingRoom then settled (refused roomTooShort) output room else
-    settled (verdict image book log) output room
+    if ltb (length output) runOutput then resultOf (refused outputTooShort) output room else
+    if ltb (length room) workingRoom then resultOf (refused roomTooShort) output room else
+    resultOf (verdict image book log) output room
 
 -- ---- A book check
 

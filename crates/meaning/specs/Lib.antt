@@ -10,5 +10,7 @@ pub mod RowOperations
 pub mod Processing
 pub mod CheckedRuns
 pub mod Trace
+pub mod Made
+pub mod Runs
 pub mod Theorems
 pub mod Everything

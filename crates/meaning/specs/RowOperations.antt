@@ -1,5 +1,5 @@
 -- Row operations and net effects (document 001, section 2).
-use mathlib.Core.Bool.{not}
+use mathlib.Core.Bool.{Bool, false, not}
 use mathlib.Core.List.{List, [], _∷_, _++_, map}
 use mathlib.Core.Option.{Option}
 use Prim.Native.Nat.{ℕ, suc, _+_, _*_}
@@ -151,3 +151,14 @@ netEffect os = entries (λ h. net h os) (named os)
 unfoldable pub effectAt : ℕ → NetEffect → Effect
 effectAt h [] = nothing
 effectAt h (p ∷ ps) = if eqb (p .0) h then p .1 else effectAt h ps
+
+-- an effect is on a table
+unfoldable pub onTable : ℕ → Effect → Bool
+onTable t nothing = false
+onTable t (inserted u) = eqb u t
+onTable t (deleted r) = eqb (r .table) t
+onTable t (updated m r) = eqb (r .table) t
+
+-- what a net effect says of the rows of a table
+unfoldable pub ownOf : ℕ → NetEffect → NetEffect
+ownOf t es = select (λ p. onTable t (p .1)) es

@@ -18,31 +18,11 @@ use Rattle.meaning.specs.Processing.TransitionTables.{wakes, transition}
 use Rattle.meaning.specs.Processing.Queries.{chosen}
 use Rattle.meaning.specs.Processing.Actions.{went}
 use Rattle.meaning.specs.Processing.TotalOrder.{precedesRule, totalOrder}
-use Rattle.meaning.specs.EntryPoints.{Refusal, Verdict, refused, accepted, verdict, JudgedBook, refusedBook, acceptedBook, judgeBook, precedesCycle, written}
+use Rattle.meaning.specs.EntryPoints.{verdict, JudgedBook, refusedBook, judgeBook, precedesCycle, written}
+use Rattle.meaning.specs.Runs.{Accepted, endingOf, Spoken}
 use Rattle.meaning.specs.EntryPoints.{RunResult, CheckResult, run, checkBook, ruleBytes, outcomeNumber, reasonNumber}
 use Rattle.meaning.specs.Trace.{operationsIn, considerationsIn, sinceLast, givenTo, joinedIn, Makes}
 use Rattle.meaning.specs.Trace.{masksOn, deletedIn, fromOutside, Differs}
-
--- ---- The runs that are spoken of
-
--- image, book and log are as document 01 wants them
-pub record Accepted (image book log : List ℕ) : Type 0 where
-  pub start : Image
-  pub ruleBook : Book
-  pub order : List ℕ
-  pub operations : List LogOperation
-  pub imageRead : readAll ByteLayouts.image image ≡ some start
-  pub bookJudged : judgeBook book ≡ acceptedBook ruleBook order
-  pub logRead : readAll ByteLayouts.log log ≡ some operations
-
--- how such a run ends
-unfoldable pub endingOf : {image book log : List ℕ} → Accepted image book log → Ending
-endingOf a = process (a .ruleBook .rules) (a .order) (a .ruleBook .limit) (a .operations) (a .start)
-
--- every run is refused, or accepted, and then its verdict is that ending
-pub data Spoken (image book log : List ℕ) : Type 0 where
-  isRefused : (r : Refusal) → verdict image book log ≡ refused r → Spoken image book log
-  isAccepted : (a : Accepted image book log) → verdict image book log ≡ accepted (a .start) (endingOf a) → Spoken image book log
 
 abbrev pub EveryRun : Type 0
 EveryRun = (image book log : List ℕ) → Spoken image book log

@@ -1,5 +1,5 @@
--- What is said of a trace: its operations, the stretches between the considerations of a rule, what follows the log and a consideration,
--- and what a handle's rows and masks alone say of a stretch, without the join table.
+-- What is said of a trace: its operations, the places in it, the stretches between the considerations of a rule, what follows the log and a
+-- consideration, and what a handle's rows and masks alone say of a stretch, without the join table.
 use mathlib.Core.Path.{_≡_}
 use mathlib.Core.Bool.{Bool, true, false, _&&_}
 use mathlib.Core.List.{List, [], _∷_, _++_, map}
@@ -25,6 +25,29 @@ unfoldable pub considerationsIn : List Event → ℕ
 considerationsIn [] = 0
 considerationsIn (made o ∷ es) = considerationsIn es
 considerationsIn (considered k given ∷ es) = suc (considerationsIn es)
+
+-- ---- Places in the trace of a run that ends as e
+
+-- a point: the events before it and after it
+pub record Point (e : Ending) : Type 0 where
+  pub before : List Event
+  pub after : List Event
+  pub place : e .trace ≡ before ++ after
+
+-- a row operation
+pub record Making (e : Ending) : Type 0 where
+  pub before : List Event
+  pub operation : RowOperation
+  pub after : List Event
+  pub place : e .trace ≡ before ++ (made operation ∷ after)
+
+-- a consideration: a rule, by its number, and what it is given
+pub record Consideration (e : Ending) : Type 0 where
+  pub before : List Event
+  pub number : ℕ
+  pub given : NetEffect
+  pub after : List Event
+  pub place : e .trace ≡ before ++ (considered number given ∷ after)
 
 -- ---- The stretches of rule k
 

@@ -15,9 +15,9 @@ use lib.ListN.{length, getD, take, set, replicate, length-set, getD-replicate}
 use lib.Seq.{getD-set-same, getD-set-other, getD-take, take-suc-set}
 use Rattle.meaning.specs.Base.{any, firstWith, upFrom}
 use Rattle.meaning.specs.Processing.TotalOrder.{numbers, precedesRule, ready, takeFrom, orderOf}
-use Rattle.order.specs.Order.{foundMeant, MasksOf, settled, allSettled, mayGo}
-use Rattle.order.specs.declared.Found.{Found}
-use Rattle.order.specs.declared.Found.the-variants.{At, Nothing}
+use Rattle.order.specs.Order.{nextMeant, MasksOf, passed, allPassed, mayGo}
+use Rattle.order.specs.declared.Next.{Next}
+use Rattle.order.specs.declared.Next.the-variants.{At, Nothing}
 use Rattle.order.proofs.Counted.{all-same, first-same, first-below}
 
 -- `taken` says of each rule of n whether it is among the rules so far
@@ -42,19 +42,19 @@ masks-of-front precedes n masks m = record {
 -- the code's test of a rule is the definition's
 module _ (ps : List ℕ) (n : ℕ) (masks : List ℕ) (taken : List Bool) (sofar : List ℕ) (long : length ps ≡ n)
     (m : MasksOf ps n masks) (linked : Linked n taken sofar) where
-  settled-same : (i j : ℕ) → i < n → j < n
-      → settled (getD masks j 0) taken i ≡ (not (precedesRule ps i j) || any (eqb i) sofar)
-  unfolding settled precedesRule Linked
-  settled-same i j l h = rw (m .each j h .same i l, linked i l)
+  passed-same : (i j : ℕ) → i < n → j < n
+      → passed (getD masks j 0) taken i ≡ (not (precedesRule ps i j) || any (eqb i) sofar)
+  unfolding passed precedesRule Linked
+  passed-same i j l h = rw (m .each j h .same i l, linked i l)
 
   ready-same : (j : ℕ) → j < n → mayGo masks taken n j ≡ ready ps sofar j
-  unfolding mayGo allSettled ready numbers Linked
+  unfolding mayGo allPassed ready numbers Linked
   ready-same j h =
       rw (
         long,
         linked j h,
-        all-same (settled (getD masks j 0) taken) (λ i. not (precedesRule ps i j) || any (eqb i) sofar) 0 n
-            (λ i l. settled-same i j (omega arith) h),
+        all-same (passed (getD masks j 0) taken) (λ i. not (precedesRule ps i j) || any (eqb i) sofar) 0 n
+            (λ i l. passed-same i j (omega arith) h),
       )
 
   next-same : firstWith (mayGo masks taken n) (upFrom 0 n) ≡ firstWith (ready ps sofar) (numbers ps)
@@ -146,12 +146,12 @@ module _ {n : ℕ} {masks : List ℕ} {left : ℕ} {taken : List Bool} {rules : 
       rw (none-left, sub-zero) at (b .same ps long m)
 
 -- what the search answers, by the case of its answer
-pub found-at : (r : Found) (o : Option ℕ) (j : ℕ) → r ≡ At j → foundMeant r ≡ o → o ≡ some j
-unfolding foundMeant
+pub found-at : (r : Next) (o : Option ℕ) (j : ℕ) → r ≡ At j → nextMeant r ≡ o → o ≡ some j
+unfolding nextMeant
 found-at (At i) o j e m = cc
 found-at Nothing o j e m = cc
 
-pub found-nothing : (r : Found) (o : Option ℕ) → r ≡ Nothing → foundMeant r ≡ o → o ≡ none
-unfolding foundMeant
+pub found-nothing : (r : Next) (o : Option ℕ) → r ≡ Nothing → nextMeant r ≡ o → o ≡ none
+unfolding nextMeant
 found-nothing (At i) o e m = cc
 found-nothing Nothing o e m = cc

@@ -7,17 +7,17 @@ use Prim.Native.Nat.{ℕ, _<_}
 use lib.ListN.{take, getD}
 use Rattle.meaning.specs.Base.{if_then_else_, bit, all, upFrom}
 use Rattle.order.specs.declared.Order.{Order}
-use Rattle.order.specs.declared.Found.{Found}
-use Rattle.order.specs.declared.Found.the-variants.{At, Nothing}
+use Rattle.order.specs.declared.Next.{Next}
+use Rattle.order.specs.declared.Next.the-variants.{At, Nothing}
 
 -- the first n numbers, where an order was found
 unfoldable pub orderMeant : ℕ → Order → Option (List ℕ)
 orderMeant n r = if r .found then some (take n (r .rules)) else none
 
 -- the rule's number, where one was found
-unfoldable pub foundMeant : Found → Option ℕ
-foundMeant (At j) = some j
-foundMeant Nothing = none
+unfoldable pub nextMeant : Next → Option ℕ
+nextMeant (At j) = some j
+nextMeant Nothing = none
 
 -- `mask` has bit i for each rule i of n that precedes rule j
 pub record MaskOf (precedes : List ℕ) (n j mask : ℕ) : Type 0 where
@@ -28,13 +28,13 @@ pub record MasksOf (precedes : List ℕ) (n : ℕ) (masks : List ℕ) : Type 0 w
   pub each : (j : ℕ) → j < n → MaskOf precedes n j (getD masks j 0)
 
 -- rule i is no predecessor in this mask, or it is taken
-unfoldable pub settled : ℕ → List Bool → ℕ → Bool
-settled mask taken i = not (bit mask i) || getD taken i false
+unfoldable pub passed : ℕ → List Bool → ℕ → Bool
+passed mask taken i = not (bit mask i) || getD taken i false
 
 -- all rules of n in this mask are taken
-unfoldable pub allSettled : ℕ → List Bool → ℕ → Bool
-allSettled mask taken n = all (settled mask taken) (upFrom 0 n)
+unfoldable pub allPassed : ℕ → List Bool → ℕ → Bool
+allPassed mask taken n = all (passed mask taken) (upFrom 0 n)
 
 -- rule j is not taken, and all of its predecessors are
 unfoldable pub mayGo : List ℕ → List Bool → ℕ → ℕ → Bool
-mayGo masks taken n j = not (getD taken j false) && allSettled (getD masks j 0) taken n
+mayGo masks taken n j = not (getD taken j false) && allPassed (getD masks j 0) taken n

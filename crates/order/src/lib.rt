@@ -5,7 +5,7 @@ ghost use Prim.Native.Nat.{_≤_, _<_};
 ghost use lib.ListN.{take};
 ghost use Rattle.meaning.specs.Base.{firstWith, upFrom};
 ghost use Rattle.meaning.specs.Processing.TotalOrder.{orderOf};
-ghost use Rattle.order.specs.Order.{orderMeant, foundMeant, MaskOf, MasksOf, settled, allSettled, mayGo};
+ghost use Rattle.order.specs.Order.{orderMeant, nextMeant, MaskOf, MasksOf, passed, allPassed, mayGo};
 
 // The rules' numbers in total order at the front, where one was found.
 pub struct Order {
@@ -14,7 +14,7 @@ pub struct Order {
 }
 
 // The rule to take next, where one is ready.
-enum Found {
+enum Next {
     At(usize),
     Nothing,
 }
@@ -48,9 +48,9 @@ fn predecessors(precedes: [usize; 16], n: usize) -> [usize; 16]
 }
 
 // Rule i is none of these predecessors, or it is taken.
-fn is_settled(mask: usize, taken: [bool; 16], i: usize) -> bool
+fn is_passed(mask: usize, taken: [bool; 16], i: usize) -> bool
     requires { ⌜ i < 16 ⌝ }
-    ensures { λ r. ⌜ r ≡ settled mask taken i ⌝ }
+    ensures { λ r. ⌜ r ≡ passed mask taken i ⌝ }
 {
     if words::has_bit(mask, i) {
         return taken[i];
@@ -59,14 +59,14 @@ fn is_settled(mask: usize, taken: [bool; 16], i: usize) -> bool
 }
 
 // All of these predecessors are taken.
-fn all_settled(mask: usize, taken: [bool; 16], n: usize) -> bool
+fn all_passed(mask: usize, taken: [bool; 16], n: usize) -> bool
     requires { ⌜ n ≤ 16 ⌝ }
-    ensures { λ r. ⌜ r ≡ allSettled mask taken n ⌝ }
+    ensures { λ r. ⌜ r ≡ allPassed mask taken n ⌝ }
 {
     let mut left = n;
     while 0 < left {
         let i = n - left;
-        if !is_settled(mask, taken, i) {
+        if !is_passed(mask, taken, i) {
             return false;
         }
         left -= 1;
@@ -82,23 +82,23 @@ fn is_ready(masks: [usize; 16], taken: [bool; 16], n: usize, j: usize) -> bool
     if taken[j] {
         return false;
     }
-    all_settled(masks[j], taken, n)
+    all_passed(masks[j], taken, n)
 }
 
 // The lowest-numbered rule that is ready.
-fn next_ready(masks: [usize; 16], taken: [bool; 16], n: usize) -> Found
+fn next_ready(masks: [usize; 16], taken: [bool; 16], n: usize) -> Next
     requires { ⌜ n ≤ 16 ⌝ }
-    ensures { λ r. ⌜ foundMeant r ≡ firstWith (mayGo masks taken n) (upFrom 0 n) ⌝ }
+    ensures { λ r. ⌜ nextMeant r ≡ firstWith (mayGo masks taken n) (upFrom 0 n) ⌝ }
 {
     let mut left = n;
     while 0 < left {
         let j = n - left;
         if is_ready(masks, taken, n, j) {
-            return Found::At(j);
+            return Next::At(j);
         }
         left -= 1;
     }
-    Found::Nothing
+    Next::Nothing
 }
 
 // precedes: for each rule of n the mask of the rules that it precedes.
@@ -112,7 +112,7 @@ pub fn total_order(precedes: [usize; 16], n: usize) -> Order
     let mut left = n;
     while 0 < left {
         let next = next_ready(masks, taken, n);
-        let Found::At(j) = next else {
+        let Next::At(j) = next else {
             return Order {
                 found: false,
                 rules,

@@ -4,15 +4,15 @@ use mathlib.Core.Bool.{Bool, true, false}
 use mathlib.Core.List.{List}
 use Prim.Native.Nat.{ℕ, _≤_, _<_}
 use native.Mathlib.Omega.{arith}
-use Rattle.plan.specs.Plans.{ownTable, Placed}
+use Rattle.plan.specs.Plans.{activeTable, Placed}
 
 module _ {s : List ℕ} {n k start table : ℕ} (here : Placed s n k start table) where
   active-own : here .rule .active ≡ true → table ≡ here .rule .table
-  unfolding ownTable
+  unfolding activeTable
   active-own e = here .is ∙ rw e
 
   idle-own : here .rule .active ≡ false → table ≡ 4
-  unfolding ownTable
+  unfolding activeTable
   idle-own e = here .is ∙ rw e
 
   pub active-low : here .rule .active ≡ true → table ≤ 3

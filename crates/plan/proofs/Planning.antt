@@ -24,7 +24,7 @@ use Rattle.book.specs.declared.RuleRead.the-variants.{Is}
 use Rattle.book.specs.Books.{ruleOr, ruleMeant, ruleOf, headRule}
 use Rattle.order.specs.declared.Order.{Order}
 use Rattle.order.specs.Order.{orderMeant}
-use Rattle.plan.specs.Plans.{rulesIn, ownTable, OutlineOf, Outlined, Placed, Watched, Planned}
+use Rattle.plan.specs.Plans.{rulesIn, activeTable, OutlineOf, Outlined, Placed, Watched, Planned}
 use Rattle.plan.specs.declared.Outline.{Outline}
 use Rattle.plan.proofs.Fits.{rule-fits}
 
@@ -42,7 +42,7 @@ module _ (s : List ℕ) {read : Read Rule} {r : RuleRead} {rule : RuleStood} {ne
   rule-read = rw (← e, is)
 
   pub outlined : {o : Outline} → OutlineOf (headRule (rule .head)) next o → Outlined read o
-  unfolding ruleMeant ruleOf headRule ownTable
+  unfolding ruleMeant ruleOf headRule activeTable
   outlined made =
       rw rule-read
       (record {

@@ -20,12 +20,12 @@ abbrev pub rulesIn : List ℕ → ℕ → List Rule
 rulesIn s n = readable n (ByteLayouts.rule n) s 8
 
 -- the own table of a rule that is active; 4 for one that is not
-unfoldable pub ownTable : Rule → ℕ
-ownTable rule = if rule .active then rule .table else 4
+unfoldable pub activeTable : Rule → ℕ
+activeTable rule = if rule .active then rule .table else 4
 
 -- an outline of a rule that was read up to a place
 pub record OutlineOf (rule : Rule) (next : ℕ) (o : Outline) : Type 0 where
-  pub table : o .table ≡ ownTable rule
+  pub table : o .table ≡ activeTable rule
   pub triggers : o .triggers ≡ rule .triggers
   pub columns : o .columns ≡ rule .columns
   pub precedes : o .precedes ≡ rule .precedes
@@ -43,7 +43,7 @@ pub record Placed (s : List ℕ) (n k : ℕ) (start table : ℕ) : Type 0 where
   pub read : ByteLayouts.rule n s start ≡ got rule next
   pub listed : getElem? (rulesIn s n) k ≡ some rule
   pub fits : rule .table ≤ 3
-  pub is : table ≡ ownTable rule
+  pub is : table ≡ activeTable rule
 
 -- a rule looks out for its triggers, in its columns
 pub record Watched (rule : Rule) (g c : ℕ) : Type 0 where

@@ -9,11 +9,12 @@ use Rattle.meaning.specs.ByteLayouts.{operation}
 use Rattle.meaning.specs.RowOperations.{RowOperation, makeAll}
 use Rattle.meaning.specs.Processing.{runLog, ended, afterEvents, afterLog, steps, process, made}
 use Rattle.meaning.specs.Processing.Actions.{went, ends, onward}
-use Rattle.meaning.proofs.Made.{Sound}
+use Rattle.meaning.specs.Made.{Sound}
 use Rattle.words.specs.Words.{readable}
 use Rattle.room.specs.Represents.{Represents, Running, madeAll}
 use Rattle.room.proofs.Kept.{kept-trans}
-use Rattle.room.proofs.Marks.{starting, starting-log, reached-starting}
+use Rattle.room.proofs.Marks.{starting-log, reached-starting}
+use Rattle.room.specs.Represents.{starting}
 use Rattle.changes.specs.declared.Reason.{Reason}
 use Rattle.changes.specs.declared.Step.{Step}
 use Rattle.changes.specs.declared.Step.the-variants.{Went, RolledBack, Failed}

@@ -15,12 +15,14 @@ use Rattle.meaning.specs.RowOperations.{RowOperation}
 use Rattle.meaning.specs.Processing.{State, Event, Ending, ended, afterEvents, waits, triggered, consider, moved, firstTriggered}
 use Rattle.meaning.specs.Processing.TransitionTables.{wakes}
 use Rattle.meaning.specs.Processing.Actions.{Result, went, ends}
-use Rattle.meaning.proofs.Lists.{Each, and-true, first-is, there-below}
+use Rattle.meaning.proofs.Lists.{and-true, first-is, there-below}
+use Rattle.meaning.specs.Base.{Each}
 use Rattle.meaning.proofs.StepsFit.{GoodRule, Built, built-moved}
 use Rattle.meaning.proofs.RunsFit.{rule-gives}
 use Rattle.words.proofs.Laws.{readable-each}
 use Rattle.room.specs.Represents.{Represents, madeAll}
-use Rattle.room.proofs.Marks.{seen, seen-moved, reached-seen}
+use Rattle.room.proofs.Marks.{seen-moved, reached-seen}
+use Rattle.room.specs.Represents.{seen}
 use Rattle.changes.specs.declared.Reason.{Reason}
 use Rattle.changes.specs.declared.Step.{Step}
 use Rattle.changes.specs.declared.Step.the-variants.{Went, RolledBack, Failed}

@@ -22,7 +22,7 @@ use Rattle.meaning.proofs.NetEffects.{Listed, noEntry, oneEntry, says-net, netE
 use Rattle.meaning.proofs.Capacity.{handles, has-live}
 use Rattle.meaning.proofs.Lives.{differs}
 use Rattle.room.specs.Room.{ROWS, liveRows, waitsIn}
-use Rattle.meaning.proofs.OwnTable.{ownOf}
+use Rattle.meaning.specs.RowOperations.{ownOf}
 use Rattle.meaning.proofs.OwnTable.{own-gather, own-wakes, own-transition}
 use Rattle.room.specs.Drawn.{drawnFor, Few}
 use Rattle.room.specs.Represents.{Reached, Settled}

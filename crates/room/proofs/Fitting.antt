@@ -10,9 +10,9 @@ use Rattle.meaning.specs.Covers.{Image, lastHandle}
 use Rattle.meaning.specs.RowOperations.{inserts, deletes, updates}
 use Rattle.meaning.specs.Processing.{State}
 use Rattle.meaning.specs.Trace.{OnlyIn}
-use Rattle.meaning.proofs.Lists.{noElement, anElement}
+use Rattle.meaning.specs.Base.{noElement, anElement}
 use Rattle.meaning.proofs.Parsing.{signed-fits}
-use Rattle.meaning.proofs.Made.{Proper, Fits, insertFits, deleteFits, updateFits}
+use Rattle.meaning.specs.Made.{Proper, Fits, insertFits, deleteFits, updateFits}
 use Rattle.words.specs.Words.{low32At}
 use Rattle.slots.specs.declared.Slot.{Slot}
 use Rattle.slots.specs.Slots.{tableAt, blank}

@@ -13,7 +13,7 @@ use Rattle.meaning.specs.Covers.{Row, Image}
 use Rattle.meaning.specs.RowOperations.{rowAt, without, withRow}
 use Rattle.meaning.specs.Processing.{State}
 use Rattle.meaning.proofs.Lists.{clash}
-use Rattle.meaning.proofs.Made.{Rising, above, Sound}
+use Rattle.meaning.specs.Made.{Rising, above, Sound}
 use Rattle.meaning.proofs.Lookups.{rowAt-none, rowAt-head, rowAt-skip}
 use Rattle.meaning.proofs.Images.{makeAll-sound}
 use Rattle.slots.specs.declared.Slot.{Slot}

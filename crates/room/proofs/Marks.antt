@@ -12,25 +12,21 @@ use borrow.Author.Tests.{eqb-true, eqb-false, ltb-true, ltb-false}
 use Rattle.meaning.specs.Covers.{Rule, Image}
 use Rattle.meaning.specs.RowOperations.{RowOperation, makeAll, netEffect}
 use Rattle.meaning.specs.Processing.{State, since, waits, moved, afterLog}
-use Rattle.meaning.proofs.Made.{Sound, Made.none as noneMade}
+use Rattle.meaning.specs.Made.{Sound, Made.none as noneMade}
 use Rattle.meaning.proofs.NetEffects.{netEffect-none}
 use Rattle.words.specs.Words.{Bytes, low32At}
 use Rattle.words.proofs.Laws.{all-same}
 use Rattle.slots.specs.Slots.{tableAt}
 use Rattle.room.specs.Room.{NEXT, STRETCH, waitAt, Laid, waitMeant, liveRows, waitsIn, stretchIn}
-use Rattle.meaning.proofs.OwnTable.{ownOf}
-use Rattle.room.specs.Joins.{Ended}
+use Rattle.meaning.specs.RowOperations.{ownOf}
+use Rattle.room.specs.Joins.{RulesEnd}
 use Rattle.room.specs.Drawn.{Drew}
-use Rattle.room.specs.Represents.{Represents, Settled, Reached, madeAll}
+use Rattle.room.specs.Represents.{Represents, Settled, Reached, starting, seen, madeAll}
 use Rattle.meaning.proofs.OwnTable.{own-none}
 use Rattle.room.proofs.Kept.{word-kept, live-kept}
 use Rattle.room.proofs.Settling.{settled-waits}
 
 -- ---- A mark is moved
-
--- rule k has seen all operations so far
-unfoldable pub seen : State → ℕ → State
-seen s k = record { image = s .image; done = s .done; marks = set (s .marks) k (length (s .done)) }
 
 -- a consideration's state
 pub seen-moved : (rules : List Rule) (s : State) (k : ℕ) (os : List RowOperation) → madeAll os (seen s k) ≡ moved rules s k os
@@ -110,10 +106,6 @@ drew {s} {xs} {ys} {tables} {k} p d bytes mark =
 
 -- ---- The start
 
--- nothing is done, and all marks are at 0
-unfoldable pub starting : List Rule → Image → State
-starting rules start = record { image = start; done = []; marks = replicate (length rules) 0 }
-
 pub starting-log : (rules : List Rule) (order : List ℕ) (start : Image) (os : List RowOperation)
     → madeAll os (starting rules start) ≡ afterLog rules order start os
 unfolding starting madeAll afterLog
@@ -126,7 +118,7 @@ reached-starting rules s =
 
 pub represents-starting : (rules : List Rule) {start : Image} {xs tables : List ℕ} → Laid xs → Bytes xs
     → low32At xs NEXT ≡ start .next → liveRows xs ≡ start .rows
-    → ((k : ℕ) → k < 16 → tableAt xs (waitAt k) ≡ []) → tableAt xs STRETCH ≡ [] → Ended tables
+    → ((k : ℕ) → k < 16 → tableAt xs (waitAt k) ≡ []) → tableAt xs STRETCH ≡ [] → RulesEnd tables
     → Represents xs tables (starting rules start)
 unfolding starting waitsIn stretchIn waitMeant
 represents-starting rules {start} {tables = tables} laid bytes next rows empty none ended =

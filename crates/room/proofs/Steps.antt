@@ -9,7 +9,7 @@ use lib.ListN.{length, getD, take, drop, set, length-append, take-append-drop}
 use Rattle.meaning.specs.Covers.{Row, Image}
 use Rattle.meaning.specs.RowOperations.{RowOperation, inserts, deletes, updates, handleOf, effectOf, make, makeAll, netEffect}
 use Rattle.meaning.specs.Processing.{State, since, waits}
-use Rattle.meaning.proofs.Made.{Sound, Fits, Made, more, Made.none as noneMade}
+use Rattle.meaning.specs.Made.{Sound, Fits, Made, more, Made.none as noneMade}
 use Rattle.meaning.proofs.Lookups.{makeAll-append, made-front, made-back, made-append}
 use Rattle.meaning.proofs.Images.{makeAll-sound}
 use Rattle.meaning.proofs.NetEffects.{netEffect-more, netEffect-listed}

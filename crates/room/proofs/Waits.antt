@@ -16,7 +16,7 @@ use Rattle.slots.specs.declared.Slot.{Slot}
 use Rattle.slots.specs.Slots.{blank, Sorted}
 use Rattle.room.specs.Room.{rowMeant, effectMeant, entryMeant, waitMeant}
 use Rattle.room.specs.Joins.{asEffect, joinedSlot, joinSlot, keptSlot, joinSlots, joinIf, joinStretch}
-use Rattle.meaning.proofs.OwnTable.{onTable, ownOf}
+use Rattle.meaning.specs.RowOperations.{onTable, ownOf}
 use Rattle.meaning.proofs.Stretches.{joinEffects, join-into-listed}
 use Rattle.room.specs.Represents.{Says}
 

@@ -58,7 +58,7 @@ pub record Joinable (xs : List ℕ) (op : Slot) : Type 0 where
 
 -- A rule's own table is 0..3, and 4 stands for that of a rule that is not active. Where more than that stands there is no rule, and none
 -- after it.
-pub record Ended (tables : List ℕ) : Type 0 where
+pub record RulesEnd (tables : List ℕ) : Type 0 where
   pub stays : (j k : ℕ) → j ≤ k → k < 16 → 4 < getD tables j 0 → 4 < getD tables k 0
 
 -- what waits at a base then, for a rule on a table
@@ -68,7 +68,7 @@ settledAt xs base table = joinStretch table (tableAt xs STRETCH) (tableAt xs bas
 -- what waits for each active rule can take what was done since
 pub record Settleable (xs tables : List ℕ) : Type 0 where
   pub laid : Laid xs
-  pub ended : Ended tables
+  pub ended : RulesEnd tables
   pub rises : Sorted (tableAt xs STRETCH)
   pub sorted : (k : ℕ) → k < 16 → getD tables k 0 ≤ 3 → Sorted (tableAt xs (waitAt k))
   pub fits : (k : ℕ) → k < 16 → getD tables k 0 ≤ 3 → length (settledAt xs (waitAt k) (getD tables k 0)) ≤ ENTRIES

@@ -2,15 +2,15 @@
 use mathlib.Core.Path.{_≡_}
 use mathlib.Core.List.{List, [], _∷_, _++_}
 use Prim.Native.Nat.{ℕ, _≤_, _<_}
-use lib.ListN.{length, getD, drop}
-use Rattle.meaning.specs.Covers.{Image}
+use lib.ListN.{length, getD, drop, set, replicate}
+use Rattle.meaning.specs.Covers.{Rule, Image}
 use Rattle.meaning.specs.RowOperations.{RowOperation, handleOf, effectOf, make, makeAll, netEffect}
 use Rattle.meaning.specs.Processing.{State}
-use Rattle.meaning.proofs.Made.{Sound, Made}
+use Rattle.meaning.specs.Made.{Sound, Made}
 use Rattle.words.specs.Words.{Bytes, low32At}
 use Rattle.slots.specs.declared.Slot.{Slot}
-use Rattle.meaning.proofs.OwnTable.{ownOf}
-use Rattle.room.specs.Joins.{Ended}
+use Rattle.meaning.specs.RowOperations.{ownOf}
+use Rattle.room.specs.Joins.{RulesEnd}
 use Rattle.room.specs.Room.{NEXT, Laid, effectMeant, liveRows, waitsIn, stretchIn}
 
 -- Live rows and next handle are the image's. Of the operations done, the first joined what waits for the rules, and what was done since
@@ -21,7 +21,7 @@ pub record Represents (xs tables : List ℕ) (s : State) : Type 0 where
   pub bytes : Bytes xs
   pub next : low32At xs NEXT ≡ s .image .next
   pub rows : liveRows xs ≡ s .image .rows
-  pub ended : Ended tables
+  pub ended : RulesEnd tables
   pub joined : List RowOperation
   pub since : List RowOperation
   pub whole : s .done ≡ joined ++ since
@@ -56,6 +56,14 @@ pub record Ready (xs tables : List ℕ) : Type 0 where
   pub state : State
   pub reached : Reached start state
   pub settled : Settled xs tables state
+
+-- nothing is done, and all marks are at 0
+unfoldable pub starting : List Rule → Image → State
+starting rules start = record { image = start; done = []; marks = replicate (length rules) 0 }
+
+-- rule k has seen all operations so far
+unfoldable pub seen : State → ℕ → State
+seen s k = record { image = s .image; done = s .done; marks = set (s .marks) k (length (s .done)) }
 
 -- one operation more, and several
 unfoldable pub madeOne : RowOperation → State → State

@@ -8,7 +8,7 @@ use Rattle.meaning.specs.Covers.{Image, Outcome}
 use Rattle.meaning.specs.RowOperations.{RowOperation}
 use Rattle.meaning.specs.Processing.{State}
 use Rattle.meaning.specs.Processing.Actions.{Result, went, ends, following, andThen}
-use Rattle.meaning.proofs.Made.{Sound, Made}
+use Rattle.meaning.specs.Made.{Sound, Made}
 use Rattle.meaning.proofs.ActionsFit.{Breaks, MadeOf, wentMade, endsMade}
 use Rattle.room.specs.Room.{transitionIn}
 use Rattle.room.specs.Represents.{Represents, Reached, Running, madeAll}

@@ -1,7 +1,7 @@
 -- In a room of bytes the rows of the transition tables have values in range, since a value is a word.
 use mathlib.Core.List.{List}
 use Prim.Native.Nat.{ℕ, zero, suc, _+_}
-use Rattle.meaning.proofs.Lists.{Each, noElement, anElement}
+use Rattle.meaning.specs.Base.{Each, noElement, anElement}
 use Rattle.meaning.proofs.Parsing.{signed-fits}
 use Rattle.meaning.proofs.ActionsFit.{Ranged, RangedTables}
 use Rattle.words.specs.Words.{Bytes, low32At}

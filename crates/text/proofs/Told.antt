@@ -18,8 +18,8 @@ use Rattle.meaning.specs.ByteLayouts.{imageBytes}
 use Rattle.meaning.specs.Processing.{Ending}
 use Rattle.meaning.specs.EntryPoints.{Verdict, refused, accepted, refusedWith, ran, handedBack, verdict, answerOf, written, lines, runLines}
 use Rattle.meaning.specs.EntryPoints.{refusalLine, line, decimal, rowLines, refusalNumber, outcomeNumber, failureNumber, reasonNumber}
-use Rattle.meaning.specs.EntryPoints.{run, settled, runOutput, workingRoom, mostInput, firstPart, verdictOn, printed}
-use Rattle.meaning.specs.Theorems.{Accepted, endingOf, isRefused, isAccepted}
+use Rattle.meaning.specs.EntryPoints.{run, resultOf, runOutput, workingRoom, mostInput, firstPart, verdictOn, printed}
+use Rattle.meaning.specs.Runs.{Accepted, endingOf, isRefused, isAccepted}
 use Rattle.meaning.proofs.WrittenRead.{written-read}
 use Rattle.meaning.proofs.RunsFit.{run-sound, run-end-sound, run-limit}
 use Rattle.meaning.proofs.Theorems.{every-run, ends}
@@ -50,7 +50,7 @@ handed-read a (failed r) = written-read (run-sound a)
 pub showable : (image book log : List ℕ) → Showable (verdict image book log)
 showable image book log = go (every-run image book log)
   where
-    go : Rattle.meaning.specs.Theorems.Spoken image book log → Showable (verdict image book log)
+    go : Rattle.meaning.specs.Runs.Spoken image book log → Showable (verdict image book log)
     go (isRefused r e) = rw e tt
     go (isAccepted a e) = rw e (handed-read a (endingOf a .outcome), omega (arith, ends a .counted, run-limit a))
 
@@ -58,7 +58,7 @@ showable image book log = go (every-run image book log)
 
 pub run-tells : (image book log before after xs ys : List ℕ) {r : Answer} → runOutput ≤ length before → workingRoom ≤ length xs
     → Runs image book log before after xs ys r → Tells after r (verdict image book log)
-unfolding run settled
+unfolding run resultOf
 run-tells image book log before after xs ys {r} o w runs =
     let v = verdict image book log in
     let same = rw (le-ltb (length before) runOutput o, le-ltb (length xs) workingRoom w) at (runs .result) in

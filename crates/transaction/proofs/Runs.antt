@@ -25,7 +25,7 @@ use Rattle.room.specs.Room.{NEXT, LIVE, END, ROWS, Kept, liveRows}
 use Rattle.room.specs.Joins as Joins
 use Rattle.room.specs.Represents.{Represents}
 use Rattle.room.proofs.Kept.{kept-trans}
-use Rattle.room.proofs.Marks.{starting}
+use Rattle.room.specs.Represents.{starting}
 use Rattle.plan.specs.declared.Plan.{Plan}
 use Rattle.plan.specs.Plans.{rulesIn, Planned}
 use Rattle.plan.proofs.Active.{own-within}
@@ -35,9 +35,9 @@ use Rattle.processing.specs.declared.Outcome.{Outcome}
 use Rattle.processing.specs.declared.Outcome.the-variants.{Commit, RolledBack, StepLimit, Failed}
 use Rattle.processing.specs.declared.Ended.{Ended}
 use Rattle.processing.specs.Endings.{outcomeMeant, Starts, EndsAs, Processes}
-use Rattle.transaction.specs.declared.Accepted.{Accepted}
+use Rattle.transaction.specs.declared.ReadOff.{ReadOff}
 use Rattle.transaction.specs.Handed.{committed, handed}
-use Rattle.transaction.specs.Transacts.{Accepts, Transacts, endingOf}
+use Rattle.transaction.specs.Transacts.{Accepts, Transacts, endingFrom}
 
 -- ---- What stands past the tables
 
@@ -78,7 +78,7 @@ planned-ended {plan = plan} p = record { stays = λ j k le few past. go j k le f
 
 -- ---- The run
 
-module _ {image book : List ℕ} {a : Accepted} (ok : Accepts image book a) where
+module _ {image book : List ℕ} {a : ReadOff} (ok : Accepts image book a) where
   -- the start image
   startImage : Image
   startImage = record { next = a .next; rows = ok .rows .rows }
@@ -99,8 +99,8 @@ module _ {image book : List ℕ} {a : Accepted} (ok : Accepts image book a) wher
         }
 
     module _ {zs log : List ℕ} {r : Ended} (p : Processes ys zs book log (a .plan) (a .limit) (a .operations) r) where
-      ends : (start : Image) → readAll ByteLayouts.image image ≡ some start → EndsAs zs (endingOf book log a start) r
-      unfolding endingOf
+      ends : (start : Image) → readAll ByteLayouts.image image ≡ some start → EndsAs zs (endingFrom book log a start) r
+      unfolding endingFrom
       ends start e = p .ends start (image-sound image start e) (represents-start start e)
 
       pub live-stands : Stands LIVE ROWS zs
@@ -119,7 +119,7 @@ module _ {image book : List ℕ} {a : Accepted} (ok : Accepts image book a) wher
           record {
             handsBack = λ start e.
                 let ended = ends start e in
-                let ending = endingOf book log a start in
+                let ending = endingFrom book log a start in
                 let given = round-trip image start e in
                 let same = handed-meant (r .outcome) image zs start ending (ended .outcome) (ended .next) (ended .rows) given in
                 record { outcome = ended .outcome; count = ended .count; output = out ∙ ap (λ (l : List ℕ). inFrontOf l before) same };
@@ -127,5 +127,5 @@ module _ {image book : List ℕ} {a : Accepted} (ok : Accepts image book a) wher
           }
 
 -- a well-formed image fits the output
-pub image-short : {image book : List ℕ} {a : Accepted} → Accepts image book a → length image ≤ 1355
+pub image-short : {image book : List ℕ} {a : ReadOff} → Accepts image book a → length image ≤ 1355
 image-short {image} ok = omega (arith, image-fits (image-sound image _ (ok .rows .image)), ap length (round-trip image _ (ok .rows .image)))

@@ -17,18 +17,18 @@ use Rattle.plan.specs.Plans.{rulesIn, Planned}
 use Rattle.trigger.specs.Triggers.{orderIn, Numbers}
 use Rattle.processing.specs.declared.Ended.{Ended}
 use Rattle.processing.specs.Endings.{outcomeMeant}
-use Rattle.transaction.specs.declared.Accepted.{Accepted}
+use Rattle.transaction.specs.declared.ReadOff.{ReadOff}
 
 -- image and book are well formed, and have what was read off them
-pub record Accepts (image book : List ℕ) (a : Accepted) : Type 0 where
+pub record Accepts (image book : List ℕ) (a : ReadOff) : Type 0 where
   pub rows : Images.WellFormed image (a .next) (a .rows)
   pub few : a .plan .count ≤ 16
   pub planned : Planned book (a .plan .count) (a .plan)
   pub numbers : Numbers (a .plan)
 
 -- the run that the specification says
-unfoldable pub endingOf : List ℕ → List ℕ → Accepted → Image → Ending
-endingOf book log a start =
+unfoldable pub endingFrom : List ℕ → List ℕ → ReadOff → Image → Ending
+endingFrom book log a start =
     process (rulesIn book (a .plan .count)) (orderIn (a .plan)) (a .limit) (readable (a .operations) operation log 7) start
 
 -- outcome and count are those of an ending, and the image that it hands back stands at the front of the output
@@ -38,7 +38,7 @@ pub record HandsBack (before after : List ℕ) (start : Image) (e : Ending) (r :
   pub output : after ≡ inFrontOf (imageBytes (handedBack (e .outcome) start (e .image))) before
 
 -- The first 65,536 bytes of working room are zero, the rest untouched.
-pub record Transacts (image book log : List ℕ) (a : Accepted) (before after xs ys : List ℕ) (r : Ended) : Type 0 where
+pub record Transacts (image book log : List ℕ) (a : ReadOff) (before after xs ys : List ℕ) (r : Ended) : Type 0 where
   pub handsBack : (start : Image) → readAll ByteLayouts.image image ≡ some start
-      → HandsBack before after start (endingOf book log a start) r
+      → HandsBack before after start (endingFrom book log a start) r
   pub cleared : ys ≡ inFrontOf (replicate workingRoom 0) xs

@@ -12,7 +12,7 @@ use processing::Ended;
 use processing::Outcome;
 
 // What was read off image, book and log when they were judged.
-pub struct Accepted {
+pub struct ReadOff {
     pub next: u32,
     pub rows: usize,
     pub plan: Plan,
@@ -56,7 +56,7 @@ pub fn transact(
     image: &[u8],
     book: &[u8],
     log: &[u8],
-    a: Accepted,
+    a: ReadOff,
     out: &mut [u8],
     room: &mut [u8],
 ) -> Ended

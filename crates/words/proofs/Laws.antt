@@ -15,7 +15,7 @@ use Rattle.meaning.specs.Base.{if_then_else_}
 use Rattle.meaning.specs.Reading.{Read, bad, got, Parser, onFrom, byteAt, byteWithin, byte, number16, number32, many}
 use Rattle.meaning.specs.ByteLayouts.{value}
 use Rattle.meaning.specs.Values.{signed}
-use Rattle.meaning.proofs.Lists.{Each, noElement, anElement}
+use Rattle.meaning.specs.Base.{Each, noElement, anElement}
 use Rattle.meaning.proofs.Parsing.{on-from-got, same-value, same-place}
 use Rattle.meaning.proofs.RunsFit.{Gives}
 use Rattle.words.specs.Words.{Bytes, word16At, word32At, low32At, lowBytes4, endOf, andMore, readable}

@@ -10,7 +10,7 @@ returns c = rw (c .if1 .taken)
 
 returns-2 : tie.Need-returns-2
 unfolding mayGo
-returns-2 c = rw (c .before .if1 .left) (c .all-settled .ensures)
+returns-2 c = rw (c .before .if1 .left) (c .all-passed .ensures)
 
 pub is-ready-spec : {M : Type 1} → statement M
 is-ready-spec =

@@ -1,5 +1,4 @@
--- The notions that the proofs share: proper rows, sound images, and operations that fit an image one after another, of which every stretch
--- of a run is made.
+-- Proper rows, sound images, and operations that fit an image one after another: what a layout admits, and what a run makes of it.
 use mathlib.Core.Path.{_≡_}
 use mathlib.Core.List.{List, [], _∷_}
 use mathlib.Core.Option.{some}
@@ -10,7 +9,7 @@ use lib.ListN.{length}
 use Rattle.meaning.specs.Covers.{mostRows, lastHandle, Row, Image}
 use Rattle.meaning.specs.RowOperations.{RowOperation, inserts, deletes, updates, rowAt, make}
 use Rattle.meaning.specs.Trace.{OnlyIn}
-use Rattle.meaning.proofs.Lists.{Each}
+use Rattle.meaning.specs.Base.{Each}
 
 -- each value is a signed 32-bit number
 abbrev pub InRange : List ℤ → Type 0
@@ -46,3 +45,9 @@ pub data Fits (m : Image) : RowOperation → Type 0 where
 pub data Made : Image → List RowOperation → Type 0 where
   none : {m : Image} → Made m []
   more : {m : Image} {o : RowOperation} {os : List RowOperation} → Fits m o → Made (make o m) os → Made m (o ∷ os)
+
+-- rows that are taken from an image: proper, live, by rising handle
+pub data Taken (rows : List Row) : ℕ → List Row → Type 0 where
+  noneTaken : {low : ℕ} → Taken rows low []
+  oneTaken : {low : ℕ} {r : Row} {rs : List Row} → low < r .handle → Proper r → rowAt (r .handle) rows ≡ some r → Taken rows (r .handle) rs
+      → Taken rows low (r ∷ rs)
