@@ -67,7 +67,7 @@ handed-meant (Failed r) image ys start e is next rows given = rw (← is) (sym g
 -- ---- The tables of a plan
 
 -- the rules of a plan have their own table, or 4, and past them stands 5
-planned-ended : {book : List ℕ} {plan : Plan} → Planned book (plan .count) plan → Joins.Ended (plan .tables)
+planned-ended : {book : List ℕ} {plan : Plan} → Planned book (plan .count) plan → Joins.RulesEnd (plan .tables)
 planned-ended {plan = plan} p = record { stays = λ j k le few past. go j k le few past (ltb j (plan .count)) refl }
   where
     go : (j k : ℕ) → j ≤ k → k < 16 → 4 < getD (plan .tables) j 0 → (b : Bool) → ltb j (plan .count) ≡ b → 4 < getD (plan .tables) k 0
