@@ -1,17 +1,31 @@
--- The table of kinds, in its range and past it: in range the number of an absent element does not matter, and past it that is all there is.
-use mathlib.Core.Path.{_≡_, sym}
-use Prim.Native.Nat.{ℕ, _+_, _*_, _≤_, _<_}
-use lib.ListN.{getD, List·getD-eq-default}
+-- The table of kinds has four lines of four: within them the number of an absent element does not matter, and past them that is all there is.
+use mathlib.Core.Path.{_≡_, refl, sym}
+use mathlib.Core.List.{[]}
+use Prim.Native.Nat.{ℕ, zero, suc, _≤_, _<_}
+use native.Mathlib.Omega.{arith}
+use lib.ListN.{length, getD, List·getD-eq-default}
 use Rattle.meaning.specs.RowOperations.{joinKind, joinTable}
 use Rattle.words.proofs.Laws.{getD-any}
 
-pub kind-in : (a b j d : ℕ) → j ≡ a * 4 + b → j < 16 → getD joinTable j d ≡ joinKind a b
-unfolding joinKind joinTable
-kind-in a b j d q h = rw (← q) (getD-any joinTable j d 4 h)
+four : (a : ℕ) → a < 4 → length (getD joinTable a []) ≡ 4
+unfolding joinTable
+four zero h = refl
+four (suc zero) h = refl
+four (suc (suc zero)) h = refl
+four (suc (suc (suc zero))) h = refl
+four (suc (suc (suc (suc a)))) h = absurd (omega arith)
 
-pub kind-past : (a b : ℕ) → 16 ≤ a * 4 + b → 4 ≡ joinKind a b
+pub kind-in : (a b : ℕ) → a < 4 → b < 4 → getD (getD joinTable a []) b 0 ≡ joinKind a b
+unfolding joinKind
+kind-in a b h l = getD-any (getD joinTable a []) b 0 4 (omega (arith, four a h))
+
+pub past-columns : (a b : ℕ) → a < 4 → 4 ≤ b → 4 ≡ joinKind a b
+unfolding joinKind
+past-columns a b h l = sym (List·getD-eq-default (getD joinTable a []) 4 (omega (arith, four a h)))
+
+pub past-lines : (a b : ℕ) → 4 ≤ a → 4 ≡ joinKind a b
 unfolding joinKind joinTable
-kind-past a b h = sym (List·getD-eq-default joinTable 4 h)
+past-lines a b h = rw (List·getD-eq-default joinTable [] h)
 
 -- of kinds that were read
 pub kind-of : {a b u v k : ℕ} → u ≡ a → v ≡ b → k ≡ joinKind u v → joinKind a b ≡ k

@@ -12,10 +12,10 @@ use lib.Seq.{slice, slice-empty, length-slice, take-suc, take-all, drop-append-l
 use Rattle.meaning.specs.RowOperations.{joinKind}
 use Rattle.words.specs.Words.{low32At}
 use Rattle.slots.specs.declared.Slot.{Slot}
-use Rattle.slots.specs.Slots.{slotAt, tableAt, tableBytes, placeIn, hit, blank, Frame, Stands, Holds}
+use Rattle.slots.specs.Slots.{tableAt, tableBytes, placeIn, hit, blank, Frame, Stands, Holds}
 use Rattle.slots.proofs.Frames.{frame-refl, frame-trans, word-kept-above}
 use Rattle.slots.proofs.Order.{place-within}
-use Rattle.slots.proofs.Tables.{table-length, table-get, table-kept-above, stands-kept-above, holds-size}
+use Rattle.slots.proofs.Tables.{table-length, table-kept-above, stands-kept-above, holds-size}
 use Rattle.room.specs.Room.{SPARE, STRETCH}
 use Rattle.room.specs.Joins.{asEffect, joinedSlot, joinSlot, keptSlot, joinSlots, joinStretch, settledAt}
 use Rattle.effects.specs.Settling.{Passed, Settles, Loom, Weavable, Wove, Aside}
@@ -110,10 +110,6 @@ module _ {x0 x : List ℕ} {base from to i : ℕ} (l : Loom x0 base) (fits : to 
       subst (λ (k : ℕ). Holds SPARE 128 x0 x (tableAt x0 SPARE ++ slice from k (tableAt x0 base))) q (b .holds)
 
 -- ---- Two slots as one
-
-pub kind-small : (xs : List ℕ) (base i : ℕ) → i < low32At xs base → getD (tableAt xs base) i blank .kind < 256
-unfolding slotAt
-kind-small xs base i h = rw (table-get xs base i h) (omega arith)
 
 join-nothing : (a b : Slot) → joinKind (a .kind) (b .kind) ≡ 0 → joinSlot a b .kind ≡ 0
 unfolding joinSlot joinedSlot asEffect

@@ -19,23 +19,39 @@ ghost use Rattle.effects.specs.Settling.{joinedAt, tableIn, wovenFrom};
 use room::Watch;
 use slots::Slot;
 
-// How two kinds join, a line for the kind before, a column for the kind that comes after it: 0 nothing,
-// 1 inserted, 2 deleted, 3 updated; 4 marks a join that no run can reach.
-const JOIN: [u8; 16] = [0, 1, 2, 3, 1, 4, 0, 1, 2, 4, 4, 4, 3, 4, 2, 3];
+// The kinds of an effect.
+pub const NOTHING: u8 = 0;
+
+pub const INSERTED: u8 = 1;
+
+pub const DELETED: u8 = 2;
+
+pub const UPDATED: u8 = 3;
+
+// Marks a join that no run can reach.
+const UNREACHABLE: u8 = 4;
+
+// How two kinds join: a line for the kind before, a column for the kind that comes after it.
+const JOIN: [[u8; 4]; 4] = [
+    [NOTHING, INSERTED, DELETED, UPDATED],
+    [INSERTED, UNREACHABLE, NOTHING, INSERTED],
+    [DELETED, UNREACHABLE, UNREACHABLE, UNREACHABLE],
+    [UPDATED, UNREACHABLE, DELETED, UPDATED],
+];
 
 // What stands for the table of a rule that is not active; more than that stands past the last rule.
 const INACTIVE: u8 = 4;
 
 fn join_kind(a: usize, b: usize) -> u8
-    requires { ⌜ a < 256 ⌝ }
-    requires { ⌜ b < 256 ⌝ }
     ensures { λ r. ⌜ r ≡ joinKind a b ⌝ }
 {
-    let j = a * 4 + b;
-    if j < 16 {
-        return JOIN[j];
+    if a < 4 {
+        if b < 4 {
+            let line = JOIN[a];
+            return line[b];
+        }
     }
-    4
+    UNREACHABLE
 }
 
 // The columns of two updates.
@@ -66,14 +82,14 @@ fn join_slot(a: Slot, b: Slot) -> Slot
     ensures { λ r. ⌜ r ≡ joinSlot a b ⌝ }
 {
     let k = join_kind(words::wide(a.kind), words::wide(b.kind));
-    if k == 2 {
+    if k == DELETED {
         return b;
     }
-    if k == 3 {
-        return as_effect(3, united(a.mask, b.mask), a);
+    if k == UPDATED {
+        return as_effect(UPDATED, united(a.mask, b.mask), a);
     }
-    if k == 0 {
-        return as_effect(0, 0, a);
+    if k == NOTHING {
+        return as_effect(NOTHING, 0, a);
     }
     a
 }
@@ -86,14 +102,14 @@ fn stays(room: &[u8], base: usize, i: usize, op: Slot) -> bool
     ensures { λ r. ⌜ (r ≡ true
         → Holds base 128 (now (room .entry)) (now (room .entry)) (joinSlots op (tableAt (now (room .entry)) base))) ⌝ }
 {
-    if op.kind == 3 {
+    if op.kind == UPDATED {
         if slots::is_at(room, base, room::ENTRIES, i, op.handle) {
             let kind = slots::kind_at(room, base, room::ENTRIES, i);
-            if kind == 3 {
+            if kind == UPDATED as usize {
                 let mask = slots::mask_at(room, base, room::ENTRIES, i);
                 return mask | words::wide(op.mask) == mask;
             }
-            return kind == 1;
+            return kind == INSERTED as usize;
         }
     }
     false
@@ -112,7 +128,7 @@ fn join_at(room: &mut [u8], base: usize, i: usize, op: Slot)
     }
     let e = slots::slot_at(room, base, room::ENTRIES, i);
     let x = join_slot(e, op);
-    if x.kind == 0 {
+    if x.kind == NOTHING {
         slots::remove_at(room, base, room::ENTRIES, i);
         return;
     }
@@ -181,14 +197,14 @@ fn bring_joined(room: &mut [u8], base: usize, i: usize, j: usize)
     // the kinds first, so that slots of which nothing is left are not read
     let before = slots::kind_at(room, base, room::ENTRIES, i);
     let after = slots::kind_at(room, room::STRETCH, room::ENTRIES, j);
-    if join_kind(before, after) == 0 {
+    if join_kind(before, after) == NOTHING {
         return;
     }
     let e = slots::slot_at(room, base, room::ENTRIES, i);
     let op = slots::slot_at(room, room::STRETCH, room::ENTRIES, j);
     let x = join_slot(e, op);
-    // of a slot that was of kind 0 before, nothing may be left either
-    if x.kind == 0 {
+    // of a slot that said nothing before, nothing may be left either
+    if x.kind == NOTHING {
         return;
     }
     slots::push(room, room::SPARE, room::ENTRIES, x);

@@ -1,34 +1,31 @@
 -- Laws of a whole image. After the frame and the head the rows are read, and the image is well formed exactly where they rise and fill the
--- slice; its bytes are the head and then the bytes of each row, so that writing each row back at its place gives the image.
+-- slice.
 use mathlib.Core.Path.{_≡_, refl, sym, ap, _∙_}
 use mathlib.Core.Bool.{true, false}
-use mathlib.Core.List.{List, _++_}
+use mathlib.Core.List.{List}
 use mathlib.Core.Option.{none, some}
 use Prim.Native.Nat.{ℕ, _+_, _-_, _*_, _≤_, _<_}
 use native.Mathlib.Omega.{arith}
 use borrow.Author.Tests.{le-leb, lt-leb, leb-true, ltb-true, ltb-false}
 use lib.Dec.{leb, ltb}
-use lib.ListN.{length, take, drop, length-append, length-take}
-use lib.Seq.{take-add, take-length, length-take-le}
-use borrow.Rule.Slice.PartMut.{putMid}
-use Rattle.meaning.specs.Base.{inFrontOf}
+use lib.ListN.{length, length-append}
 use Rattle.meaning.specs.Reading.{Read, bad, got, onFrom, must, number16, number32, many, readAll}
 use Rattle.meaning.specs.Covers as Covers
 use Rattle.meaning.specs.Covers.{Image, mostRows}
 use Rattle.meaning.specs.ByteLayouts as ByteLayouts
 use Rattle.meaning.specs.ByteLayouts.{framed, row, rising, bytes2, bytes4, rowBytes, rowsBytes}
 use Rattle.meaning.specs.Base.{Each, noElement, anElement}
-use Rattle.meaning.proofs.Parsing.{Spans, spans-as, spans-then, spans-take, on-from-got, same-value, same-place}
+use Rattle.meaning.proofs.Parsing.{spans-as, spans-then, on-from-got, same-value, same-place}
 use Rattle.meaning.proofs.Parsing.{must-got, number16-reads, number32-reads, length-bytes2, length-bytes4, read-all, framed-got}
-use Rattle.meaning.proofs.RoundTrip.{FitRow, row-reads, rows-read, imageFields}
+use Rattle.meaning.proofs.RoundTrip.{FitRow, rows-read, imageFields}
 use Rattle.words.specs.Words.{Bytes, word16At, word32At, readable}
 use Rattle.words.proofs.Laws.{split, number16-read, number16-short, number32-read, number32-short, readable-many}
 use Rattle.fields.specs.Fields.{wellFramed}
 use Rattle.fields.proofs.Laws.{frame-refused, fields-refused, length-refused, fields-taken}
-use Rattle.image.specs.Images.{rowMeant, rowOr, imageOr, firstRow, WellFormed, riseIn, headBytes}
+use Rattle.image.specs.Images.{imageOr, firstRow, WellFormed, riseIn}
 use Rattle.image.specs.declared.ImageRead.the-variants.{Is}
 use Rattle.image.specs.declared.Row.{Row}
-use Rattle.image.proofs.Laws.{row-size, row-proper, rows-first, in-front-length, in-front-whole, part-on}
+use Rattle.image.proofs.Laws.{row-size}
 
 -- ---- n rows
 
@@ -135,14 +132,13 @@ module _ (s : List ℕ) (b : Bytes s) where
 
 -- ---- Where the parts of a well-formed image stand
 
-pub record Laid (s : List ℕ) (next count : ℕ) (rows : List Covers.Row) : Type 0 where
+pub record Laid (s : List ℕ) (count : ℕ) (rows : List Covers.Row) : Type 0 where
   pub few : count ≤ 64
   pub size : length s ≡ 11 + 21 * count
   pub read : many count row s 11 ≡ got rows (length s)
-  pub head : Spans s 0 (headBytes (7 + 21 * count) next count) 11
 
 fields-laid : (s : List ℕ) {next : ℕ} {rows : List Covers.Row} {end : ℕ} → imageFields s 5 ≡ got (record { next = next; rows = rows }) end
-    → (length rows ≤ 64) × (many (length rows) row s 11 ≡ got rows end) × Spans s 5 (bytes4 next ++ bytes2 (length rows)) 11
+    → (length rows ≤ 64) × (many (length rows) row s 11 ≡ got rows end)
 unfolding imageFields
 fields-laid s {next} {rows} {end} e =
     on-from-got (number32 s 5) _ e (λ h mid1 one rest1.
@@ -156,16 +152,15 @@ fields-laid s {next} {rows} {end} e =
     let k6 = must-got (rising 0 h rs) s mid5 six in
     let k5 = rows-end n s mid4 five in
     let front = spans-then (spans-as refl (k2 .1) (number32-reads .told one)) (spans-as refl (k4 .1) (number16-reads .told three)) in
-    let isNext : h ≡ next = ap (λ (m : Image). m .next) (same-value same) in
     let isRows : rs ≡ rows = ap (λ (m : Image). m .rows) (same-value same) in
     let isEnd : mid6 ≡ end = same-place same in
     let isCount : n ≡ length rows = sym (k5 .0) ∙ ap length isRows in
     let isFirst : mid4 ≡ 11 =
     omega (arith, front .ends, length-append (bytes4 h) (bytes2 n), length-bytes4 h, length-bytes2 n) in
-    (omega (arith, leb-true n mostRows (k4 .0)), (cc), spans-as (cc) isFirst front)))))))
+    (omega (arith, leb-true n mostRows (k4 .0)), (cc))))))))
 
-pub laid : {s : List ℕ} {next count : ℕ} (w : WellFormed s next count) → Laid s next count (w .rows)
-unfolding ByteLayouts.image imageFields headBytes
+pub laid : {s : List ℕ} {next count : ℕ} (w : WellFormed s next count) → Laid s count (w .rows)
+unfolding ByteLayouts.image imageFields
 laid {s} {next} {count} w =
     let whole = read-all (framed imageFields) s (w .image) in
     let f = framed-got imageFields s 0 (whole .1) in
@@ -173,75 +168,8 @@ laid {s} {next} {count} w =
     let counted = w .counted in
     let read : many count row s 11 ≡ got (w .rows) (length s) = rw (← counted, ← f .filled) (p .1) in
     let q = rows-end count s 11 read in
-    let isLength : f .count ≡ 7 + 21 * count = omega arith in
-    record {
-      few = omega arith;
-      size = omega arith;
-      read = read;
-      head = spans-as (cc) refl (spans-then (f .counted) (spans-then (f .version) (p .2)));
-    }
+    record { few = omega arith; size = omega arith; read = read }
 
 -- the rows are those that can be read
 pub rows-are : {s : List ℕ} {next count : ℕ} (w : WellFormed s next count) → readable count row s firstRow ≡ w .rows
 rows-are {s} {next} {count} w = readable-many row count s firstRow (w .rows) (length s) (laid w .read)
-
--- ---- Writing an image back
-
--- Up to `here` the output holds the image, and from there on what it held at first (`ys`); so many rows of the image are left.
-pub record Copied (s ys out : List ℕ) (left here : ℕ) : Type 0 where
-  pub rest : List Covers.Row
-  pub rows : many left row s here ≡ got rest (length s)
-  pub size : here + 21 * left ≡ length s
-  pub fits : length s ≤ length ys
-  pub is : out ≡ inFrontOf (take here s) ys
-
-module _ {s ys out : List ℕ} {left here : ℕ} (c : Copied s ys out left here) where
-  pub copied-length : length out ≡ length ys
-  copied-length = rw (c .is) (in-front-length (take here s) ys (simp length-take (omega arith)))
-
-  module _ (more : 0 < left) (r : Row) (is : row s here ≡ rowOr r (here + 21)) where
-    pub copied-table : r .table ≤ 3
-    copied-table = rows-first left s here r more (c .rows) is .0
-
-    pub copied-more : (last : List ℕ) → last ≡ inFrontOf (rowBytes (rowMeant r)) (take (length out - here) (drop here out))
-        → Copied s ys (putMid here (length out - here) out last) (left - 1) (here + 21)
-    copied-more last e =
-        let next = rows-first left s here r more (c .rows) is in
-        let read = is ∙ row-proper r (here + 21) copied-table in
-        let bytes = rowBytes (rowMeant r) in
-        let long : length bytes ≡ 21 = row-size (row-reads .fit read) in
-        let front : length (take here s) ≡ here = length-take-le here s (omega arith) in
-        let grown : take (here + 21) s ≡ take here s ++ bytes =
-        take-add here 21 s ∙ ap (λ (l : List ℕ). take here s ++ l) (rw long at (spans-take (row-reads .told read))) in
-        record {
-          rest = next .1;
-          rows = next .3;
-          size = omega arith;
-          fits = c .fits;
-          is = part-on (take here s) bytes ys here (c .is) front e (omega (arith, copied-length)) ∙ rw grown;
-        }
-
-pub copied-all : {s ys out : List ℕ} {left here : ℕ} (zs : List ℕ) → Copied s ys out left here → left ≤ 0 → ys ≡ inFrontOf (take 11 s) zs
-    → out ≡ inFrontOf s zs
-copied-all {s} {ys} {out} {left} {here} zs c done e =
-    let end : here ≡ length s = omega arith in
-    let whole : take here s ≡ s = ap (λ (k : ℕ). take k s) end ∙ take-length s in
-    c .is ∙ rw (whole, e) (in-front-whole (take 11 s) s zs (simp length-take (omega arith)))
-
-pub copied-none : {s : List ℕ} {next count : ℕ} (w : WellFormed s next count) (ys out : List ℕ) → length s ≤ length ys
-    → out ≡ inFrontOf (headBytes (7 + 21 * count) next count) ys → (out ≡ inFrontOf (take 11 s) ys) × Copied s out out count 11
-copied-none {s} {next} {count} w ys out h e =
-    let l = laid w in
-    let head = headBytes (7 + 21 * count) next count in
-    let long : length head ≡ 11 = omega (arith, l .head .ends) in
-    let is : take 11 s ≡ head = rw long at (spans-take (l .head)) in
-    let start : out ≡ inFrontOf (take 11 s) ys = rw is e in (
-      start,
-      record {
-        rest = w .rows;
-        rows = l .read;
-        size = omega arith;
-        fits = omega (arith, ap length e, in-front-length head ys (omega arith));
-        is = rw start (sym (in-front-whole (take 11 s) (take 11 s) ys (omega arith)));
-      },
-    )

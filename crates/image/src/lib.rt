@@ -1,4 +1,4 @@
-// The image: judged exactly, its rows read, and an image written to the front of an output.
+// The image: judged exactly, its rows read, and its head and its rows as bytes.
 ghost use mathlib.Core.Path.{_≡_};
 ghost use Prim.Native.Nat.{_+_, _*_, _≤_, _<_};
 ghost use lib.ListN.{length};
@@ -6,7 +6,7 @@ ghost use Rattle.meaning.specs.Base.{inFrontOf};
 ghost use Rattle.meaning.specs.Reading.{many, readAll};
 ghost use Rattle.meaning.specs.ByteLayouts as ByteLayouts;
 ghost use Rattle.meaning.specs.ByteLayouts.{rowBytes};
-ghost use Rattle.image.specs.Images.{rowMeant, rowOr, imageOr, WellFormed, Told, riseIn, headBytes};
+ghost use Rattle.image.specs.Images.{rowMeant, rowOr, imageOr, Told, riseIn, headBytes};
 
 // A row, its values as words in two's complement.
 pub struct Row {
@@ -132,21 +132,4 @@ pub fn put_head(out: &mut [u8], next: u32, count: usize)
     out[4] = 1;
     words::put32(out, 5, next);
     words::put16(out, 9, count);
-}
-
-// A well-formed image at the front of an output: its head, and each of its rows, read and written through a part that starts at its place.
-pub fn write_back(s: &[u8], count: usize, next: u32, out: &mut [u8])
-    requires { ⌜ WellFormed (now s) next count ⌝ }
-    requires { ⌜ length (now s) ≤ length (now out) ⌝ }
-    ensures { λ _. ⌜ now (out .exit) ≡ inFrontOf (now (s .entry)) (now (out .entry)) ⌝ }
-{
-    put_head(out, next, count);
-    let mut left = count;
-    let mut here = FIRST;
-    while 0 < left {
-        let r = row_at(s, here);
-        put_row(&mut out[here..], r);
-        here += ROW;
-        left -= 1;
-    }
 }

@@ -1,4 +1,4 @@
--- Checked runs: the cases of document 01, those marked * and M, N and O, and two more, P and Q. Each is proved by computing it.
+-- Checked runs: the cases of document 01, those marked * and M, N and O, and three more, P, Q and R. Each is proved by computing it.
 use mathlib.Core.Path.{_≡_, refl}
 use mathlib.Core.List.{List, [], _∷_, _++_}
 use Prim.Native.Nat.{ℕ, zero, suc}
@@ -88,6 +88,16 @@ keepsOldRows =
     2 ∷ 1 ∷ 7 ∷ 0 ∷ 1 ∷ 0 ∷ 1 ∷ 1 ∷ 1 ∷ 2 ∷ 1 ∷ 3 ∷
     4 ∷ 0 ∷ 8 ∷ 2 ∷ 3 ∷ (bytes4 1 ++ (1 ∷ 2 ∷ 3 ∷ bytes4 2)))
 
+-- two rows of table 0, each with the other's column 1 in column 0
+pub crossed : List ℕ
+crossed =
+    part (bytes4 3 ++ (0 ∷ 2 ∷ (bytes4 1 ++ (0 ∷ bytes4 1) ++ bytes4 2 ++ replicate 8 0
+    ++ bytes4 2 ++ (0 ∷ bytes4 2) ++ bytes4 1 ++ replicate 8 0)))
+
+-- a rule on inserts into table 1 that deletes each row of table 0 whose column 0 is column 1 of one of them
+pub deletesCrossed : List ℕ
+deletesCrossed = part (0 ∷ 1 ∷ 1 ∷ 1 ∷ 1 ∷ 1 ∷ 0 ∷ 0 ∷ 0 ∷ 0 ∷ 1 ∷ 3 ∷ 0 ∷ 1 ∷ 12 ∷ 0 ∷ 1 ∷ 0 ∷ 1 ∷ [])
+
 -- a rule that precedes those of a mask
 pub ruleBefore : ℕ → List ℕ
 ruleBefore mask = 1 ∷ 0 ∷ 1 ∷ 0 ∷ 0 ∷ mask ∷ 0 ∷ 1 ∷ 0 ∷ []
@@ -166,9 +176,11 @@ pub record CheckedRuns : Type 0 where
   pub P : Run (column3 0) rollsBackAbove5 (set3 1) (ran commit 1) (column3 1)
   -- a rule considered again is given only what was done since: its old row is then not the first one
   pub Q : Run (column3 0) keepsOldRows (set3 1) (ran commit 2) (part (bytes4 4 ++ (0 ∷ 3 ∷ (row3 1 0 2 ++ row3 2 1 0 ++ row3 3 1 1))))
+  -- all rows are chosen before one is deleted: of two that match each other, both go
+  pub R : Run crossed deletesCrossed (part (0 ∷ 1 ∷ 1 ∷ 1 ∷ replicate 16 0)) (ran commit 1) (part (bytes4 4 ++ (0 ∷ 1 ∷ row3 3 1 0)))
 
 pub checkedRuns : CheckedRuns
-unfolding everything said part rowsFrom emptyBook emptyLog anInsert aDelete column3 row3 set3 rollsBack addsOne rollsBackAbove5 keepsOldRows ruleBefore three two full64 nearTheEnd imageO bookO logO
+unfolding everything said part rowsFrom emptyBook emptyLog anInsert aDelete column3 row3 set3 rollsBack addsOne rollsBackAbove5 keepsOldRows crossed deletesCrossed ruleBefore three two full64 nearTheEnd imageO bookO logO
 checkedRuns =
     record {
       A = λ h m r s t e f. rw (eq-eqb (r .handle) h e, eq-eqb (s .handle) h f);
@@ -191,4 +203,5 @@ checkedRuns =
       O = refl;
       P = refl;
       Q = refl;
+      R = refl;
     }

@@ -2,7 +2,7 @@
 use mathlib.Core.Bool.{Bool, false, not}
 use mathlib.Core.List.{List, [], _∷_, _++_, map}
 use mathlib.Core.Option.{Option}
-use Prim.Native.Nat.{ℕ, suc, _+_, _*_}
+use Prim.Native.Nat.{ℕ, suc}
 use lib.Dec.{eqb, ltb}
 use lib.Bits.{bitOr}
 use lib.ListN.{getD}
@@ -67,15 +67,15 @@ abbrev pub unreachable : ℕ
 unreachable = 4
 
 -- How two kinds join: a line for the kind before, a column for the kind that comes after it.
-unfoldable pub joinTable : List ℕ
+unfoldable pub joinTable : List (List ℕ)
 joinTable =
-    0 ∷ 1 ∷ 2 ∷ 3 ∷
-    1 ∷ unreachable ∷ 0 ∷ 1 ∷
-    2 ∷ unreachable ∷ unreachable ∷ unreachable ∷
-    3 ∷ unreachable ∷ 2 ∷ 3 ∷ []
+    (0 ∷ 1 ∷ 2 ∷ 3 ∷ []) ∷
+    (1 ∷ unreachable ∷ 0 ∷ 1 ∷ []) ∷
+    (2 ∷ unreachable ∷ unreachable ∷ unreachable ∷ []) ∷
+    (3 ∷ unreachable ∷ 2 ∷ 3 ∷ []) ∷ []
 
 unfoldable pub joinKind : ℕ → ℕ → ℕ
-joinKind a b = getD joinTable (a * 4 + b) unreachable
+joinKind a b = getD (getD joinTable a []) b unreachable
 
 -- The later effect over the earlier one: two updates unite their masks and keep the first old row; a deleted row is as it was when it
 -- was deleted.

@@ -3,11 +3,10 @@ ghost use mathlib.Core.Path.{_≡_};
 ghost use Prim.Native.Nat.{_+_, _≤_, _<_};
 ghost use lib.ListN.{length};
 ghost use Rattle.meaning.specs.Base.{inFrontOf};
-ghost use Rattle.meaning.specs.ByteLayouts.{imageBytes};
 ghost use Rattle.words.specs.Words.{low32At};
 ghost use Rattle.slots.specs.Slots.{Stands};
-ghost use Rattle.room.specs.Room.{NEXT, LIVE, ROWS, liveRows};
-ghost use Rattle.output.specs.Outputs.{LiveRow};
+ghost use Rattle.room.specs.Room.{LIVE, ROWS};
+ghost use Rattle.output.specs.Outputs.{LiveRow, PutsImage};
 use image::Row;
 
 // The live row i, as a row of an image.
@@ -31,8 +30,7 @@ fn live_row(room: &[u8], i: usize) -> Row
 pub fn put_image(out: &mut [u8], room: &[u8])
     requires { ⌜ Stands LIVE ROWS (now room) ⌝ }
     requires { ⌜ 1355 ≤ length (now out) ⌝ }
-    ensures { λ _. ⌜ now (out .exit) ≡ inFrontOf (imageBytes
-        (record { next = low32At (now (room .entry)) NEXT; rows = liveRows (now (room .entry)) })) (now (out .entry)) ⌝ }
+    ensures { λ _. ⌜ PutsImage (now (room .entry)) (now (out .entry)) (now (out .exit)) ⌝ }
 {
     let n = slots::size(room, room::LIVE);
     image::put_head(out, words::low32(room, room::NEXT), n);

@@ -76,7 +76,7 @@ pub fn insert_row(room: &mut [u8], table: u8, e: Slot)
     let new = row_of(handle, table, e);
     slots::push(room, room::LIVE, room::ROWS, new);
     words::put_low32(room, room::NEXT, handle + 1);
-    effects::join(room, 0, effects::as_effect(1, 0, new));
+    effects::join(room, 0, effects::as_effect(effects::INSERTED, 0, new));
 }
 
 // The row with a handle goes.
@@ -92,7 +92,7 @@ pub fn delete_row(room: &mut [u8], handle: u32) -> Looked
     };
     let old = slots::slot_at(room, room::LIVE, room::ROWS, i);
     slots::remove_at(room, room::LIVE, room::ROWS, i);
-    effects::join(room, 0, effects::as_effect(2, 0, old));
+    effects::join(room, 0, effects::as_effect(effects::DELETED, 0, old));
     Looked::Made
 }
 
@@ -109,6 +109,6 @@ pub fn update_row(room: &mut [u8], near: usize, mask: u8, new: Slot) -> Looked
     };
     let old = slots::slot_at(room, room::LIVE, room::ROWS, i);
     slots::put_at(room, room::LIVE, room::ROWS, i, new);
-    effects::join(room, near, effects::as_effect(3, mask, old));
+    effects::join(room, near, effects::as_effect(effects::UPDATED, mask, old));
     Looked::Made
 }

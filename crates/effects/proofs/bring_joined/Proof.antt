@@ -1,7 +1,6 @@
 -- `effects::bring_joined` meets its contract: the joined slot is pushed, unless the kinds, or the slot itself, say that nothing is left.
-use native.Mathlib.Omega.{arith}
 use borrow.Author.Needs.{needs}
-use Rattle.effects.proofs.SpareTable.{kind-small, joined-nothing, joined-none, joined-free, joined-pushed}
+use Rattle.effects.proofs.SpareTable.{joined-nothing, joined-none, joined-free, joined-pushed}
 use Rattle.effects.proofs.bring_joined.Statement.{statement}
 use Rattle.effects.proofs.bring_joined.Tie as tie
 
@@ -14,15 +13,6 @@ kind-at-requires-2 : tie.Need-kind-at-requires-2
 kind-at-requires-2 c κs =
     let start = c .before .before .before .before in
     (start .pre .0 .stretch, start .pre .1 .1 .0)
-
-join-kind-requires : tie.Need-join-kind-requires
-join-kind-requires c κs =
-    let first = c .before .before in
-    let start = first .before .before .before in
-    let a = start .args in (
-      omega (arith, first .kind-at .ensures, kind-small (a .room .now) (a .base) (a .i) (start .pre .1 .0)),
-      omega (arith, c .kind-at2 .ensures, kind-small (a .room .now) 60000 (a .j) (start .pre .1 .1 .0)),
-    )
 
 returns : tie.Need-returns
 returns c =
@@ -78,6 +68,6 @@ returns-3 c =
 pub bring-joined-spec : {M : Type 1} → statement M
 bring-joined-spec =
     tie.close
-    (tie.spec kind-at-requires kind-at-requires-2 join-kind-requires (λ c. returns c .frame .len) returns slot-at-requires
+    (tie.spec kind-at-requires kind-at-requires-2 (λ c κs. search needs) (λ c. returns c .frame .len) returns slot-at-requires
     slot-at-requires-2 (λ c κs. search needs) (λ c. returns-2 c .frame .len) returns-2 push-requires (λ c. returns-3 c .frame .len)
     returns-3)
