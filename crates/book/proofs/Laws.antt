@@ -14,7 +14,7 @@ use lib.ListN.{length}
 use Rattle.meaning.specs.Base.{if_then_else_, bit, within}
 use Rattle.meaning.specs.Reading.{bad, got, byteWithin, many, readAll}
 use Rattle.meaning.specs.ByteLayouts.{table, mask, columns, rule, book}
-use Rattle.words.specs.Words.{Bytes, Looked, word16At, endOf, readable}
+use Rattle.words.specs.Words.{Bytes, Peeked, word16At, endOf, readable}
 use Rattle.words.specs.declared.End.the-variants.{At, Short}
 use Rattle.words.proofs.Laws.{split, number16-read, number16-short, short-bad, ends-readable}
 use Rattle.fields.specs.Fields.{wellFramed}
@@ -42,7 +42,7 @@ below-next n k =
 
 -- ---- A byte that was looked at, as it is read
 
-module _ {s : List ℕ} {at r : ℕ} (l : Looked s at r) where
+module _ {s : List ℕ} {at r : ℕ} (l : Peeked s at r) where
   pub table-looked : r ≤ 3 → table s at ≡ got r (at + 1)
   unfolding table
   table-looked h = looked-within l 0 3 (omega arith) h
@@ -69,10 +69,10 @@ module _ {s : List ℕ} {at r : ℕ} (l : Looked s at r) where
 
 -- by an answer of `columns_fit`
 module _ (triggers : ℕ) (t : Bool) {r : ℕ} (e : t ≡ columnsFit triggers r) where
-  pub columns-admitted : {s : List ℕ} {at : ℕ} → Looked s at r → not t ≡ false → columns triggers s at ≡ got r (at + 1)
+  pub columns-admitted : {s : List ℕ} {at : ℕ} → Peeked s at r → not t ≡ false → columns triggers s at ≡ got r (at + 1)
   columns-admitted l h = rw (columns-looked l triggers, ← e, not-false t h)
 
-  pub columns-refused : {s : List ℕ} {at : ℕ} → Looked s at r → not t ≡ true → columns triggers s at ≡ bad
+  pub columns-refused : {s : List ℕ} {at : ℕ} → Peeked s at r → not t ≡ true → columns triggers s at ≡ bad
   columns-refused l h = rw (columns-looked l triggers, ← e, not-true t h)
 
 -- ---- The whole book, by the tests of its judge: in a right frame the step limit must stand there and be 1..1000, the rule count at most
@@ -99,7 +99,7 @@ module _ (s : List ℕ) (b : Bytes s) (framed : wellFramed s ≡ true) (here : 7
   book-limit-high low h = fields-refused _ s b framed (rw (number16-read s b 5 here, ← is, le-leb 1 l low, lt-leb l 1000 h))
 
   -- and n rules
-  module _ (low : 1 ≤ l) (high : l ≤ 1000) (n : ℕ) (look : Looked s 7 n) where
+  module _ (low : 1 ≤ l) (high : l ≤ 1000) (n : ℕ) (look : Peeked s 7 n) where
     pub book-too-many : 16 < n → readAll book s ≡ none
     unfolding book
     book-too-many h =

@@ -10,7 +10,7 @@ use Rattle.slots.specs.Slots.{tableAt, tableBytes, Frame, Stands, Holds}
 use Rattle.slots.proofs.Frames.{frame-refl, frame-wider, frame-join}
 use Rattle.slots.proofs.Tables.{table-kept-below, stands-kept-below}
 use Rattle.room.specs.Room.{LIVE, INSERTED, DELETED, NEW, OLD, CHOSEN, WORKED, WAITS, STRETCH, END, ROWS, ENTRIES, waitAt}
-use Rattle.transition.specs.Shown.{Emptied as TablesEmptied}
+use Rattle.transition.specs.Shown.{AllBare}
 use Rattle.loading.specs.Steps.{NoneWaits, Emptied}
 
 -- ---- What waits
@@ -59,7 +59,7 @@ module _ {xs x : List ℕ} (k : ℕ) (up : Upto xs x k) where
 
 -- ---- Every table
 
-pub all-emptied : {x0 x1 x2 x3 x4 x5 x6 : List ℕ} → END ≤ length x0 → Holds LIVE ROWS x0 x1 [] → TablesEmptied x1 x2
+pub all-emptied : {x0 x1 x2 x3 x4 x5 x6 : List ℕ} → END ≤ length x0 → Holds LIVE ROWS x0 x1 [] → AllBare x1 x2
     → Holds CHOSEN ROWS x2 x3 [] → Holds WORKED ROWS x3 x4 [] → NoneWaits x4 x5 → Holds STRETCH ENTRIES x5 x6 [] → Emptied x0 x6
 unfolding tableBytes
 all-emptied {x0} {x1} {x2} {x3} {x4} {x5} {x6} long a t b c w d =

@@ -15,9 +15,9 @@ use lib.ListN.{length, getD, take, set, replicate, length-set, getD-replicate}
 use lib.Seq.{getD-set-same, getD-set-other, getD-take, take-suc-set}
 use Rattle.meaning.specs.Base.{any, firstWith, upFrom}
 use Rattle.meaning.specs.Processing.TotalOrder.{numbers, precedesRule, ready, takeFrom, orderOf}
-use Rattle.order.specs.Order.{nextMeant, MasksOf, passed, allPassed, mayGo}
-use Rattle.order.specs.declared.Next.{Next}
-use Rattle.order.specs.declared.Next.the-variants.{At, Nothing}
+use Rattle.order.specs.Order.{readyMeant, MasksOf, passed, allPassed, mayGo}
+use Rattle.order.specs.declared.ReadyRule.{ReadyRule}
+use Rattle.order.specs.declared.ReadyRule.the-variants.{At, Nothing}
 use Rattle.order.proofs.Counted.{all-same, first-same, first-below}
 
 -- `taken` says of each rule of n whether it is among the rules so far
@@ -146,12 +146,12 @@ module _ {n : ℕ} {masks : List ℕ} {left : ℕ} {taken : List Bool} {rules : 
       rw (none-left, sub-zero) at (b .same ps long m)
 
 -- what the search answers, by the case of its answer
-pub found-at : (r : Next) (o : Option ℕ) (j : ℕ) → r ≡ At j → nextMeant r ≡ o → o ≡ some j
-unfolding nextMeant
+pub found-at : (r : ReadyRule) (o : Option ℕ) (j : ℕ) → r ≡ At j → readyMeant r ≡ o → o ≡ some j
+unfolding readyMeant
 found-at (At i) o j e m = cc
 found-at Nothing o j e m = cc
 
-pub found-nothing : (r : Next) (o : Option ℕ) → r ≡ Nothing → nextMeant r ≡ o → o ≡ none
-unfolding nextMeant
+pub found-nothing : (r : ReadyRule) (o : Option ℕ) → r ≡ Nothing → readyMeant r ≡ o → o ≡ none
+unfolding readyMeant
 found-nothing (At i) o e m = cc
 found-nothing Nothing o e m = cc

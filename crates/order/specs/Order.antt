@@ -7,17 +7,17 @@ use Prim.Native.Nat.{ℕ, _<_}
 use lib.ListN.{take, getD}
 use Rattle.meaning.specs.Base.{if_then_else_, bit, all, upFrom}
 use Rattle.order.specs.declared.Order.{Order}
-use Rattle.order.specs.declared.Next.{Next}
-use Rattle.order.specs.declared.Next.the-variants.{At, Nothing}
+use Rattle.order.specs.declared.ReadyRule.{ReadyRule}
+use Rattle.order.specs.declared.ReadyRule.the-variants.{At, Nothing}
 
 -- the first n numbers, where an order was found
 unfoldable pub orderMeant : ℕ → Order → Option (List ℕ)
 orderMeant n r = if r .found then some (take n (r .rules)) else none
 
 -- the rule's number, where one was found
-unfoldable pub nextMeant : Next → Option ℕ
-nextMeant (At j) = some j
-nextMeant Nothing = none
+unfoldable pub readyMeant : ReadyRule → Option ℕ
+readyMeant (At j) = some j
+readyMeant Nothing = none
 
 -- `mask` has bit i for each rule i of n that precedes rule j
 pub record MaskOf (precedes : List ℕ) (n j mask : ℕ) : Type 0 where

@@ -5,7 +5,7 @@ ghost use Prim.Native.Nat.{_≤_, _<_};
 ghost use lib.ListN.{take};
 ghost use Rattle.meaning.specs.Base.{firstWith, upFrom};
 ghost use Rattle.meaning.specs.Processing.TotalOrder.{orderOf};
-ghost use Rattle.order.specs.Order.{orderMeant, nextMeant, MaskOf, MasksOf, passed, allPassed, mayGo};
+ghost use Rattle.order.specs.Order.{orderMeant, readyMeant, MaskOf, MasksOf, passed, allPassed, mayGo};
 
 // The rules' numbers in total order at the front, where one was found.
 pub struct Order {
@@ -14,7 +14,7 @@ pub struct Order {
 }
 
 // The rule to take next, where one is ready.
-enum Next {
+enum ReadyRule {
     At(usize),
     Nothing,
 }
@@ -86,19 +86,19 @@ fn is_ready(masks: [usize; 16], taken: [bool; 16], n: usize, j: usize) -> bool
 }
 
 // The lowest-numbered rule that is ready.
-fn next_ready(masks: [usize; 16], taken: [bool; 16], n: usize) -> Next
+fn next_ready(masks: [usize; 16], taken: [bool; 16], n: usize) -> ReadyRule
     requires { ⌜ n ≤ 16 ⌝ }
-    ensures { λ r. ⌜ nextMeant r ≡ firstWith (mayGo masks taken n) (upFrom 0 n) ⌝ }
+    ensures { λ r. ⌜ readyMeant r ≡ firstWith (mayGo masks taken n) (upFrom 0 n) ⌝ }
 {
     let mut left = n;
     while 0 < left {
         let j = n - left;
         if is_ready(masks, taken, n, j) {
-            return Next::At(j);
+            return ReadyRule::At(j);
         }
         left -= 1;
     }
-    Next::Nothing
+    ReadyRule::Nothing
 }
 
 // precedes: for each rule of n the mask of the rules that it precedes.
@@ -112,7 +112,7 @@ pub fn total_order(precedes: [usize; 16], n: usize) -> Order
     let mut left = n;
     while 0 < left {
         let next = next_ready(masks, taken, n);
-        let Next::At(j) = next else {
+        let ReadyRule::At(j) = next else {
             return Order {
                 found: false,
                 rules,

@@ -6,7 +6,7 @@ use mathlib.Core.List.{List, [], _∷_}
 use Rattle.meaning.specs.Base.{all, select}
 use Rattle.slots.specs.declared.Slot.{Slot}
 use Rattle.query.specs.declared.Picked.{Picked}
-use Rattle.query.specs.Picks.{slotsOf, Within, Picks}
+use Rattle.query.specs.Picks.{slotsOf, Within, PicksOut}
 use Rattle.query.proofs.Laws.{select-select}
 
 -- with no term left nothing is asked
@@ -24,7 +24,7 @@ module _ {T : Type 0} {p : T → Slot → Bool} {l : List Slot} where
 
   module _ {whole left : List T} {shown rows : Picked} (s : Asking p l whole left shown rows) where
     pub asking-more : {t : T} {next : List T} {narrower : Picked} → left ≡ t ∷ next
-        → Picks l (select (p t) (slotsOf l rows)) narrower → Asking p l whole next shown narrower
+        → PicksOut l (select (p t) (slotsOf l rows)) narrower → Asking p l whole next shown narrower
     asking-more {t} {next} e k =
         record {
           within = k .within;
@@ -32,8 +32,8 @@ module _ {T : Type 0} {p : T → Slot → Bool} {l : List Slot} where
         }
 
     -- of the rows of a table that are shown
-    pub asking-done : (shows : Slot → Bool) → left ≡ [] → Picks l (select shows l) shown
-        → Picks l (select (λ e. shows e && all (λ t. p t e) whole) l) rows
+    pub asking-done : (shows : Slot → Bool) → left ≡ [] → PicksOut l (select shows l) shown
+        → PicksOut l (select (λ e. shows e && all (λ t. p t e) whole) l) rows
     asking-done shows e k =
         record {
           within = s .within;

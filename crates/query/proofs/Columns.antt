@@ -18,7 +18,7 @@ use Rattle.words.specs.Words.{Bytes}
 use Rattle.words.proofs.Laws.{split, getD-any, all-same}
 use Rattle.words.proofs.Signs.{signed-agree}
 use Rattle.slots.specs.declared.Slot.{Slot}
-use Rattle.slots.specs.Slots.{tableAt, blank, valueOf}
+use Rattle.slots.specs.Slots.{tableAt, blank, slotValue}
 use Rattle.slots.proofs.Frames.{Fits}
 use Rattle.slots.proofs.Tables.{table-fits}
 use Rattle.room.specs.Room.{rowMeant}
@@ -148,7 +148,7 @@ module _ {p : ℕ → Bool} {hits j : ℕ} (s : Counting p hits j) (more : j < 6
 
 module _ (l : List Slot) (rows : Picked) (column : ℕ) where
   abbrev pub heldAt : ℕ → ℕ
-  heldAt j = valueOf (getD l (getD (rows .places) j 0) blank) column
+  heldAt j = slotValue (getD l (getD (rows .places) j 0) blank) column
 
   pub record Filling (values : List ℕ) (j : ℕ) : Type 0 where
     pub some : 0 < j
@@ -225,8 +225,8 @@ eqb-comm a b =
     (λ e. rw (e, eq-eqb b a (sym (eqb-true a b e))))
     (λ e. rw (e, ne-eqb b a (λ z. eqb-false a b e (sym z))))
 
-value-fits : {e : Slot} → Fits e → (c : ℕ) → valueOf e c < 4294967296
-unfolding valueOf
+value-fits : {e : Slot} → Fits e → (c : ℕ) → slotValue e c < 4294967296
+unfolding slotValue
 value-fits f zero = f .v0
 value-fits f (suc zero) = f .v1
 value-fits f (suc (suc zero)) = f .v2
@@ -235,10 +235,10 @@ value-fits f (suc (suc (suc (suc c)))) = omega arith
 
 -- values agree where the words are equal
 agree-words : {e x : Slot} → Fits e → Fits x → (c d : ℕ)
-    → eqb (valueOf x d) (valueOf e c) ≡ agree (cell (rowMeant e) c) (cell (rowMeant x) d)
+    → eqb (slotValue x d) (slotValue e c) ≡ agree (cell (rowMeant e) c) (cell (rowMeant x) d)
 agree-words {e} {x} f g c d =
     rw (← value-cell e c, ← value-cell x d)
-    (eqb-comm (valueOf x d) (valueOf e c) ∙ sym (signed-agree (valueOf e c) (valueOf x d) (value-fits f c) (value-fits g d)))
+    (eqb-comm (slotValue x d) (slotValue e c) ∙ sym (signed-agree (slotValue e c) (slotValue x d) (value-fits f c) (value-fits g d)))
 
 module _ (xs : List ℕ) (bytes : Bytes xs) (base i from : ℕ) (p : Pairs) (rows : Picked) {s0 s1 s2 s3 : List ℕ}
     (columns : ColumnsOf (tableAt xs from) rows p s0 s1 s2 s3) where

@@ -13,7 +13,7 @@ use Rattle.meaning.specs.ByteLayouts.{pair}
 use Rattle.meaning.specs.Reading.{bad, got}
 use Rattle.meaning.specs.Processing.Queries.{cell, agreeOn}
 use Rattle.meaning.specs.Values.{agree}
-use Rattle.words.specs.Words.{readable, Looked}
+use Rattle.words.specs.Words.{readable, Peeked}
 use Rattle.words.proofs.Laws.{split, readable-none, readable-bad, readable-more}
 use Rattle.query.specs.declared.Pairs.{Pairs}
 use Rattle.query.specs.Picks.{agreeOnFour, AsPairs}
@@ -30,14 +30,14 @@ module _ (book : List ℕ) (at n : ℕ) (some : 1 ≤ length (readable n pair bo
   first-some =
       split (ltb 0 n) (ltb-true 0 n) (λ e. none-readable (readable-none pair n book at (ltb-false 0 n e)))
 
-  module _ {a : ℕ} (x : Looked book at a) where
+  module _ {a : ℕ} (x : Peeked book at a) where
     pub first-own : a ≤ 3
     first-own =
         split (ltb 3 a)
         (λ e. none-readable (readable-bad pair n book at (pair-own-wrong x (ltb-true 3 a e))))
         (ltb-false 3 a)
 
-    pub first-other : {b : ℕ} → Looked book (at + 1) b → b ≤ 3
+    pub first-other : {b : ℕ} → Peeked book (at + 1) b → b ≤ 3
     first-other {b} y =
         split (ltb 3 b)
         (λ e. none-readable (readable-bad pair n book at (pair-other-wrong x first-own y (ltb-true 3 b e))))

@@ -12,10 +12,10 @@ use Rattle.meaning.specs.Reading.{bad, got}
 use Rattle.meaning.specs.ByteLayouts.{pair}
 use Rattle.meaning.specs.Values.{signed}
 use Rattle.meaning.specs.Processing.Queries.{cell, sourceRows, holds, allHold, chosen}
-use Rattle.words.specs.Words.{Looked}
+use Rattle.words.specs.Words.{Peeked}
 use Rattle.words.proofs.Laws.{split}
 use Rattle.slots.specs.declared.Slot.{Slot}
-use Rattle.slots.specs.Slots.{tableAt, blank, valueOf}
+use Rattle.slots.specs.Slots.{tableAt, blank, slotValue}
 use Rattle.terms.specs.declared.Query.{Query}
 use Rattle.terms.specs.Terms.{sourceMeant, matchMeant, termsMeant, queryMeant}
 use Rattle.terms.proofs.Laws.{column-looked, column-wrong}
@@ -26,12 +26,12 @@ use Rattle.query.specs.Picks.{matchHolds, termHolds}
 
 -- ---- A pair of columns, by the bytes that were looked at
 
-module _ {s : List ℕ} {at a : ℕ} (x : Looked s at a) where
+module _ {s : List ℕ} {at a : ℕ} (x : Peeked s at a) where
   pub pair-own-wrong : 3 < a → pair s at ≡ bad
   unfolding pair
   pair-own-wrong h = rw (column-wrong x h)
 
-  module _ {b : ℕ} (h : a ≤ 3) (y : Looked s (at + 1) b) where
+  module _ {b : ℕ} (h : a ≤ 3) (y : Peeked s (at + 1) b) where
     pub pair-other-wrong : 3 < b → pair s at ≡ bad
     unfolding pair
     pair-other-wrong k = rw (column-looked x h) (rw (column-wrong y k))
@@ -74,7 +74,7 @@ some-map f [] = refl
 some-map f (x ∷ l) = refl
 
 -- the value of a slot in a column, as it was read at a place of a table
-pub cell-read : (l : List Slot) (column : ℕ) {v i k : ℕ} → i ≡ k → v ≡ valueOf (getD l i blank) column
+pub cell-read : (l : List Slot) (column : ℕ) {v i k : ℕ} → i ≡ k → v ≡ slotValue (getD l i blank) column
     → signed v ≡ cell (rowMeant (getD l k blank)) column
 cell-read l column {v} {i} {k} same is = rw (is, same) (value-cell (getD l k blank) column)
 

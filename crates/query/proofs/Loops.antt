@@ -18,7 +18,7 @@ use Rattle.room.specs.Room.{CHOSEN, ROWS, Laid, rowMeant, rowsMeant}
 use Rattle.room.proofs.Kept.{kept-below, live-kept, transition-kept}
 use Rattle.query.specs.declared.Picked.{Picked}
 use Rattle.query.specs.Chosen.{baseOf, Chose}
-use Rattle.query.specs.Picks.{slotsOf, Within, Picks}
+use Rattle.query.specs.Picks.{slotsOf, Within, PicksOut}
 use Rattle.query.proofs.Laws.{wanted, chosen-rows}
 use Rattle.query.proofs.Kept.{source-below, base-stands, laid-kept}
 use Rattle.query.proofs.Narrowing.{slotsAt, slots-more}
@@ -56,7 +56,7 @@ module _ {xs x0 : List ℕ} (l : Laid xs) (h : Holds CHOSEN ROWS xs x0 []) where
         }
 
     pub choosing-done : (book : List ℕ) (triggers : ℕ) {x : List ℕ} {j : ℕ}
-        → Picks (tableAt x0 base) (select (wanted x0 book triggers q) (tableAt x0 base)) rows → Choosing x0 x base rows j → rows .count ≤ j
+        → PicksOut (tableAt x0 base) (select (wanted x0 book triggers q) (tableAt x0 base)) rows → Choosing x0 x base rows j → rows .count ≤ j
         → Chose xs x (queryMeant book triggers q)
     unfolding slotsOf
     choosing-done book triggers {x} {j} picks s none =

@@ -14,7 +14,7 @@ use Rattle.room.specs.Room.{rowMeant, rowsMeant}
 use Rattle.query.specs.declared.Picked.{Picked}
 use Rattle.query.specs.declared.Pairs.{Pairs}
 use Rattle.query.specs.Chosen.{baseOf, shows, rowsFrom}
-use Rattle.query.specs.Picks.{slotsOf, Within, Picks, AsPairs, matchHolds}
+use Rattle.query.specs.Picks.{slotsOf, Within, PicksOut, AsPairs, matchHolds}
 use Rattle.query.specs.Columns.{agreesWith, keptBy}
 use Rattle.query.proofs.Laws.{any-map, rows-from}
 
@@ -31,7 +31,7 @@ opposite true = refl
 opposite false = refl
 
 module _ (xs : List ℕ) (source : ℕ) {from : ℕ} (based : from ≡ baseOf source) {others : Picked}
-    (shown : Picks (tableAt xs from) (select (shows source) (tableAt xs from)) others) where
+    (shown : PicksOut (tableAt xs from) (select (shows source) (tableAt xs from)) others) where
   source-slots : rowsFrom xs source ≡ map rowMeant (slotsOf (tableAt xs from) others)
   unfolding rowsMeant
   source-slots = rows-from xs source ∙ rw (shown .slots, based)
@@ -49,8 +49,8 @@ module _ (xs : List ℕ) (source : ℕ) {from : ℕ} (based : from ≡ baseOf so
     match-agrees e = rw (some-agree e)
 
     pub match-kept : {l : List Slot} (rows : List Slot) {r : Picked}
-        → Picks l (select (λ e. keptBy negated (agreesWith p (slotsOf (tableAt xs from) others) e)) rows) r
-        → Picks l (select (matchHolds xs ps source negated) rows) r
+        → PicksOut l (select (λ e. keptBy negated (agreesWith p (slotsOf (tableAt xs from) others) e)) rows) r
+        → PicksOut l (select (matchHolds xs ps source negated) rows) r
     match-kept rows k =
         record { within = k .within; slots = k .slots ∙ (λ i. select (λ e. sym (match-agrees e) i) rows) }
 
@@ -63,11 +63,11 @@ module _ (xs : List ℕ) (source : ℕ) {from : ℕ} (based : from ≡ baseOf so
     kept-by : (b : Bool) → negated ≡ b → select (matchHolds xs ps source negated) (slotsOf l rows) ≡ select (λ e. b) (slotsOf l rows)
     kept-by b n i = select (λ e. (match-none e ∙ n) i) (slotsOf l rows)
 
-    pub none-every : negated ≡ true → Picks l (select (matchHolds xs ps source negated) (slotsOf l rows)) rows
+    pub none-every : negated ≡ true → PicksOut l (select (matchHolds xs ps source negated) (slotsOf l rows)) rows
     none-every n = record { within = within; slots = sym (kept-by true n ∙ every-kept (slotsOf l rows)) }
 
     pub none-any : (places : List ℕ) → negated ≡ false
-        → Picks l (select (matchHolds xs ps source negated) (slotsOf l rows)) (record { count = 0; places = places })
+        → PicksOut l (select (matchHolds xs ps source negated) (slotsOf l rows)) (record { count = 0; places = places })
     unfolding slotsOf
     none-any places n =
         record {

@@ -16,7 +16,7 @@ use Rattle.slots.specs.declared.Slot.{Slot}
 use Rattle.slots.specs.Slots.{tableAt, blank}
 use Rattle.slots.proofs.Tables.{table-length}
 use Rattle.query.specs.declared.Picked.{Picked}
-use Rattle.query.specs.Picks.{slotsOf, Within, Picks}
+use Rattle.query.specs.Picks.{slotsOf, Within, PicksOut}
 
 -- ---- One element more at the end
 
@@ -53,7 +53,7 @@ some-slots l places zero h = refl
 some-slots l [] (suc n) h = absurd (omega arith)
 some-slots l (x ∷ places) (suc n) h = lt-ltb 0 (suc n) (omega arith)
 
-pub some-picked : {l rows : List Slot} {p : Picked} → Picks l rows p → length (p .places) ≡ 64 → ltb 0 (p .count) ≡ someIn rows
+pub some-picked : {l rows : List Slot} {p : Picked} → PicksOut l rows p → length (p .places) ≡ 64 → ltb 0 (p .count) ≡ someIn rows
 unfolding slotsOf
 some-picked {l} {rows} {p} k long =
     rw (← k .slots) (some-slots l (p .places) (p .count) (omega (arith, k .within .few)))
@@ -91,7 +91,7 @@ written-more {l} {rows} {places} {n} v w few h =
     }
 
 pub written-picks : {l rows : List Slot} {places : List ℕ} {n : ℕ} → Written l rows places n → n ≤ 64
-    → Picks l rows (record { count = n; places = places })
+    → PicksOut l rows (record { count = n; places = places })
 unfolding slotsOf
 written-picks w few = record { within = record { few = few; inside = w .inside }; slots = w .list }
 
@@ -130,7 +130,7 @@ module _ {test : Slot → Bool} (l : List Slot) {places : List ℕ} where
           written = rw (last-shown h, select-no test (take j l) (getD l j blank) e) (s .written);
         }
 
-    pub showing-done : length l ≤ j → Picks l (select test l) (record { count = n; places = places })
+    pub showing-done : length l ≤ j → PicksOut l (select test l) (record { count = n; places = places })
     showing-done h =
         let most : n ≤ 64 = omega (arith, s .few, s .low, s .high) in
         let all : take j l ≡ l = take-all j l h in
@@ -194,7 +194,7 @@ module _ {test : Slot → Bool} (l : List Slot) (rows : Picked) where
           written = rw (last-picked h, select-no test (slotsAt l (rows .places) j) (getD l (getD places j 0) blank) e) (s .written);
         }
 
-    pub narrowing-done : rows .count ≤ j → Picks l (select test (slotsOf l rows)) (record { count = n; places = places })
+    pub narrowing-done : rows .count ≤ j → PicksOut l (select test (slotsOf l rows)) (record { count = n; places = places })
     unfolding slotsOf
     narrowing-done h =
         let most : n ≤ 64 = omega (arith, s .within .few, s .low, s .high) in

@@ -7,7 +7,7 @@ use lib.Dec.{eqb}
 use lib.ListN.{length, getD}
 use Rattle.meaning.specs.Base.{if_then_else_, any}
 use Rattle.slots.specs.declared.Slot.{Slot}
-use Rattle.slots.specs.Slots.{blank, valueOf}
+use Rattle.slots.specs.Slots.{blank, slotValue}
 use Rattle.room.specs.Room.{rowMeant}
 use Rattle.query.specs.declared.Picked.{Picked}
 use Rattle.query.specs.declared.Pairs.{Pairs}
@@ -35,7 +35,7 @@ pub record Padded (n : ℕ) (values : List ℕ) : Type 0 where
 -- the values of the picked rows of a table in a column, one after another; every place after the last has the first
 pub record ColumnOf (l : List Slot) (p : Picked) (column : ℕ) (values : List ℕ) : Type 0 where
   pub placed : p .count ≤ length (p .places)
-  pub held : (j : ℕ) → j < p .count → getD values j 0 ≡ valueOf (getD l (getD (p .places) j 0) blank) column
+  pub held : (j : ℕ) → j < p .count → getD values j 0 ≡ slotValue (getD l (getD (p .places) j 0) blank) column
   pub padded : Padded (p .count) values
 
 -- the columns of the pairs' source side
@@ -48,7 +48,7 @@ pub record ColumnsOf (l : List Slot) (rows : Picked) (p : Pairs) (s0 s1 s2 s3 : 
 -- what a row has in the own columns of the pairs
 unfoldable pub wantedOf : Pairs → Slot → Wanted
 wantedOf p e =
-    record { v0 = valueOf e (p .own0); v1 = valueOf e (p .own1); v2 = valueOf e (p .own2); v3 = valueOf e (p .own3) }
+    record { v0 = slotValue e (p .own0); v1 = slotValue e (p .own1); v2 = slotValue e (p .own2); v3 = slotValue e (p .own3) }
 
 -- the row j of four columns has what is wanted
 unfoldable pub hasAt : List ℕ → List ℕ → List ℕ → List ℕ → Wanted → ℕ → Bool

@@ -25,7 +25,7 @@ pub record Within (l : List Slot) (p : Picked) : Type 0 where
   pub inside : (j : ℕ) → j < p .count → getD (p .places) j 0 < length l
 
 -- the picked places are those of these slots
-pub record Picks (l rows : List Slot) (p : Picked) : Type 0 where
+pub record PicksOut (l rows : List Slot) (p : Picked) : Type 0 where
   pub within : Within l p
   pub slots : slotsOf l p ≡ rows
 

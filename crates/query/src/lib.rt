@@ -13,7 +13,7 @@ ghost use Rattle.slots.specs.Slots.{tableAt, Stands, blank};
 ghost use Rattle.terms.specs.Terms.{termMeant, termsMeant, queryMeant};
 ghost use Rattle.room.specs.Room.{ROWS, Laid, rowMeant, liveRows, transitionIn};
 ghost use Rattle.query.specs.Chosen.{baseOf, shows as Chosen·shows, Chose};
-ghost use Rattle.query.specs.Picks.{slotsOf, Within, Picks, AsPairs, matchHolds, termHolds, FewPairs};
+ghost use Rattle.query.specs.Picks.{slotsOf, Within, PicksOut, AsPairs, matchHolds, termHolds, FewPairs};
 ghost use Rattle.query.specs.Columns.{withPair, ColumnOf, ColumnsOf, wantedOf, hasAt, someBelow, Padded, agreesWith, keptBy};
 use terms::Query;
 use terms::Term;
@@ -74,7 +74,7 @@ fn shown_at(room: &[u8], base: usize, source: usize, i: usize) -> bool
 // The rows of a table that a source shows.
 fn shown_rows(room: &[u8], base: usize, source: usize) -> Picked
     requires { ⌜ Stands base ROWS (now room) ⌝ }
-    ensures { λ r. ⌜ Picks (tableAt (now (room .entry)) base) (select (Chosen·shows source) (tableAt (now (room .entry)) base)) r ⌝ }
+    ensures { λ r. ⌜ PicksOut (tableAt (now (room .entry)) base) (select (Chosen·shows source) (tableAt (now (room .entry)) base)) r ⌝ }
 {
     let size = slots::size(room, base);
     let mut places: [u8; 64] = [0; 64];
@@ -299,7 +299,7 @@ fn matched(
     requires { ⌜ Stands from ROWS (now room) ⌝ }
     requires { ⌜ Within (tableAt (now room) from) others ⌝ }
     requires { ⌜ 0 < others .count ⌝ }
-    ensures { λ r. ⌜ Picks (tableAt (now (room .entry)) base)
+    ensures { λ r. ⌜ PicksOut (tableAt (now (room .entry)) base)
         (select (λ e. keptBy negated (agreesWith p (slotsOf (tableAt (now (room .entry)) from) others) e))
         (slotsOf (tableAt (now (room .entry)) base) rows)) r ⌝ }
 {
@@ -348,7 +348,7 @@ fn match_rows(
     requires { ⌜ Within (tableAt (now room) base) rows ⌝ }
     requires { ⌜ 1 ≤ length (readable count pair (now book) pairs) ⌝ }
     requires { ⌜ length (readable count pair (now book) pairs) ≤ 4 ⌝ }
-    ensures { λ r. ⌜ Picks (tableAt (now (room .entry)) base)
+    ensures { λ r. ⌜ PicksOut (tableAt (now (room .entry)) base)
         (select (matchHolds (now (room .entry)) (readable count pair (now (book .entry)) pairs) source negated)
         (slotsOf (tableAt (now (room .entry)) base) rows)) r ⌝ }
 {
@@ -383,7 +383,7 @@ fn constant_rows(
 ) -> Picked
     requires { ⌜ Stands base ROWS (now room) ⌝ }
     requires { ⌜ Within (tableAt (now room) base) rows ⌝ }
-    ensures { λ r. ⌜ Picks (tableAt (now (room .entry)) base)
+    ensures { λ r. ⌜ PicksOut (tableAt (now (room .entry)) base)
         (select (λ e. Values·compare (comparison op) (Queries.cell (rowMeant e) column) (signed constant))
         (slotsOf (tableAt (now (room .entry)) base) rows)) r ⌝ }
 {
@@ -412,7 +412,7 @@ fn column_rows(
 ) -> Picked
     requires { ⌜ Stands base ROWS (now room) ⌝ }
     requires { ⌜ Within (tableAt (now room) base) rows ⌝ }
-    ensures { λ r. ⌜ Picks (tableAt (now (room .entry)) base)
+    ensures { λ r. ⌜ PicksOut (tableAt (now (room .entry)) base)
         (select (λ e. Values·compare (comparison op) (Queries.cell (rowMeant e) column) (Queries.cell (rowMeant e) other))
         (slotsOf (tableAt (now (room .entry)) base) rows)) r ⌝ }
 {
@@ -437,7 +437,7 @@ fn term_rows(room: &[u8], book: &[u8], base: usize, t: Term, rows: Picked) -> Pi
     requires { ⌜ Stands base ROWS (now room) ⌝ }
     requires { ⌜ Within (tableAt (now room) base) rows ⌝ }
     requires { ⌜ FewPairs (termMeant (now book) t) ⌝ }
-    ensures { λ r. ⌜ Picks (tableAt (now (room .entry)) base)
+    ensures { λ r. ⌜ PicksOut (tableAt (now (room .entry)) base)
         (select (termHolds (now (room .entry)) (termMeant (now (book .entry)) t)) (slotsOf (tableAt (now (room .entry)) base) rows)) r ⌝ }
 {
     match t {
@@ -460,7 +460,7 @@ fn term_rows(room: &[u8], book: &[u8], base: usize, t: Term, rows: Picked) -> Pi
 fn wanted_rows(room: &[u8], book: &[u8], triggers: usize, q: Query, base: usize) -> Picked
     requires { ⌜ Laid (now room) ⌝ }
     requires { ⌜ base ≡ baseOf (q .source) ⌝ }
-    ensures { λ r. ⌜ Picks (tableAt (now (room .entry)) base)
+    ensures { λ r. ⌜ PicksOut (tableAt (now (room .entry)) base)
         (select (λ e. Chosen·shows (q .source) e && Queries.allHold (transitionIn (now (room .entry)))
         (liveRows (now (room .entry))) (termsMeant (now (book .entry)) triggers (q .terms)) (rowMeant e))
         (tableAt (now (room .entry)) base)) r ⌝ }

@@ -9,7 +9,7 @@ use lib.ListN.{length, getD, take, drop, set, take-append-drop, List·getD-eq-de
 use Rattle.words.specs.Words.{Bytes, low32At}
 use Rattle.slots.specs.declared.Slot.{Slot}
 use Rattle.slots.specs.Slots.{slotAt, slotsFrom, tableAt, tableBytes, Frame, Stands, Holds, Stored}
-use Rattle.slots.specs.Slots.{Alike, MovedUp, MovedDown, Copied, blank, valueOf, withKind, withMarks, insertAt, removeAt}
+use Rattle.slots.specs.Slots.{Alike, MovedUp, MovedDown, Copied, blank, slotValue, withKind, withMarks, insertAt, removeAt}
 use Rattle.slots.proofs.Frames.{frame-wider, frame-join, alike-rest, slot-alike, kept-below, kept-above}
 use Rattle.slots.proofs.Frames.{word-kept-below, word-kept-above, Fits, slot-fits, blank-fits, PutWord}
 
@@ -104,8 +104,8 @@ unfolding slotAt
 table-handle xs base i h = ap (λ (e : Slot). e .handle) (table-get xs base i h)
 
 -- a slot's values stand in its last four words
-slot-value : (xs : List ℕ) (at column : ℕ) → column < 4 → low32At xs (at + 8 + 4 * column) ≡ valueOf (slotAt xs at) column
-unfolding slotAt valueOf
+slot-value : (xs : List ℕ) (at column : ℕ) → column < 4 → low32At xs (at + 8 + 4 * column) ≡ slotValue (slotAt xs at) column
+unfolding slotAt slotValue
 slot-value xs at zero h = let q : at + 8 + 4 * 0 ≡ at + 8 = omega arith in rw q
 slot-value xs at (suc zero) h = let q : at + 8 + 4 * suc zero ≡ at + 12 = omega arith in rw q
 slot-value xs at (suc (suc zero)) h = let q : at + 8 + 4 * suc (suc zero) ≡ at + 16 = omega arith in rw q
@@ -113,11 +113,11 @@ slot-value xs at (suc (suc (suc zero))) h = let q : at + 8 + 4 * suc (suc (suc z
 slot-value xs at (suc (suc (suc (suc column)))) h = absurd (omega arith)
 
 pub table-value : (xs : List ℕ) (base i column : ℕ) → i < low32At xs base → column < 4
-    → low32At xs (base + 4 + 24 * i + 8 + 4 * column) ≡ valueOf (getD (tableAt xs base) i blank) column
+    → low32At xs (base + 4 + 24 * i + 8 + 4 * column) ≡ slotValue (getD (tableAt xs base) i blank) column
 table-value xs base i column h b = rw (table-get xs base i h) (slot-value xs (base + 4 + 24 * i) column b)
 
-pub no-value : (e : Slot) (column : ℕ) → 4 ≤ column → 0 ≡ valueOf e column
-unfolding valueOf
+pub no-value : (e : Slot) (column : ℕ) → 4 ≤ column → 0 ≡ slotValue e column
+unfolding slotValue
 no-value e column h = sym (List·getD-eq-default (e .v0 ∷ e .v1 ∷ e .v2 ∷ e .v3 ∷ []) 0 h)
 
 -- a slot with its own second word is as it is; with another top byte of that word it has another kind

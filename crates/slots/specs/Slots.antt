@@ -83,8 +83,8 @@ abbrev pub blank : Slot
 blank = record { handle = 0; kind = 0; mask = 0; table = 0; v0 = 0; v1 = 0; v2 = 0; v3 = 0 }
 
 -- the value of a slot in a column; past the last column it is 0
-unfoldable pub valueOf : Slot → ℕ → ℕ
-valueOf e c = getD (e .v0 ∷ e .v1 ∷ e .v2 ∷ e .v3 ∷ []) c 0
+unfoldable pub slotValue : Slot → ℕ → ℕ
+slotValue e c = getD (e .v0 ∷ e .v1 ∷ e .v2 ∷ e .v3 ∷ []) c 0
 
 -- the slot with another value in a column; past the last column as it is
 unfoldable pub withValue : Slot → ℕ → ℕ → Slot

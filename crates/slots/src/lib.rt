@@ -6,7 +6,7 @@ ghost use mathlib.Core.List.{[], _++_, _∷_};
 ghost use Prim.Native.Nat.{_+_, _*_, _/_, _%_, _≤_, _<_};
 ghost use lib.ListN.{length, getD, set, take, drop, replicate};
 ghost use Rattle.words.specs.Words.{low32At};
-ghost use Rattle.slots.specs.Slots.{slotAt, tableAt, tableBytes, valueOf, withValue, withKind, withMarks, Stands, Holds};
+ghost use Rattle.slots.specs.Slots.{slotAt, tableAt, tableBytes, slotValue, withValue, withKind, withMarks, Stands, Holds};
 ghost use Rattle.slots.specs.Slots.{Stored, MovedUp, MovedDown, Copied, Sorted, insertAt, removeAt, placeIn, hit, findIn, blank};
 
 // A row, an effect on a row, or a row operation: what each field means is the table's owner's to say.
@@ -115,7 +115,7 @@ pub fn mask_at(room: &[u8], base: usize, most: usize, i: usize) -> usize
 pub fn value_at(room: &[u8], base: usize, most: usize, i: usize, column: usize) -> u32
     requires { ⌜ Stands base most (now room) ⌝ }
     requires { ⌜ i < low32At (now room) base ⌝ }
-    ensures { λ r. ⌜ r ≡ valueOf (getD (tableAt (now (room .entry)) base) i blank) column ⌝ }
+    ensures { λ r. ⌜ r ≡ slotValue (getD (tableAt (now (room .entry)) base) i blank) column ⌝ }
 {
     if column < 4 {
         return words::low32(room, base + HEAD + SLOT * i + 8 + 4 * column);

@@ -11,7 +11,7 @@ use Rattle.meaning.specs.Base.{if_then_else_, bit}
 use Rattle.meaning.specs.Reading.{Read, bad, got, Parser, _>>=_, pure, malformed, byteWithin, byte}
 use Rattle.meaning.specs.Covers.{Source}
 use Rattle.meaning.specs.ByteLayouts.{column, sourceOf, source}
-use Rattle.words.specs.Words.{Looked}
+use Rattle.words.specs.Words.{Peeked}
 use Rattle.words.specs.declared.End.the-variants.{At}
 use Rattle.words.proofs.Laws.{split, byte-within-yes, byte-within-low, byte-within-high}
 use Rattle.terms.specs.Terms.{sourceMeant, sourceFits}
@@ -26,7 +26,7 @@ pub too-few : (t : Bool) (n m : ℕ) → t ≡ leb n m → not t ≡ true → m 
 too-few t n m e h = leb-false n m (sym e ∙ not-true t h)
 
 -- a byte that was looked at, as it is read
-module _ {s : List ℕ} {at r : ℕ} (l : Looked s at r) where
+module _ {s : List ℕ} {at r : ℕ} (l : Peeked s at r) where
   pub looked-within : (lo hi : ℕ) → lo ≤ r → r ≤ hi → byteWithin lo hi s at ≡ got r (at + 1)
   looked-within lo hi low high = rw (l .is) (byte-within-yes lo hi s at (omega arith) (omega arith))
 
@@ -53,7 +53,7 @@ module _ {s : List ℕ} {at r : ℕ} (l : Looked s at r) where
   column-wrong h = looked-above 0 3 h
 
 -- a layout that a byte chooses is bad where that byte chooses none, whether it stands in the slice or not
-pub none-chosen : {A : Type 0} (f : ℕ → Parser A) {s : List ℕ} {at r : ℕ} → Looked s at r → f r s (at + 1) ≡ bad → (byte >>= f) s at ≡ bad
+pub none-chosen : {A : Type 0} (f : ℕ → Parser A) {s : List ℕ} {at r : ℕ} → Peeked s at r → f r s (at + 1) ≡ bad → (byte >>= f) s at ≡ bad
 none-chosen f {s} {at} {r} l h =
     split (ltb r 256)
     (λ e. rw (byte-looked l (ltb-true r 256 e)) h)
@@ -89,7 +89,7 @@ module _ (triggers : ℕ) where
       split (eqb n 7) (λ e. rw (eqb-true n 7 e) (by-last-bit (bit triggers 2) Source.oldUpdated s at)) (λ n7.
       rw (e4, n4, n5, n6, n7))))))
 
-  source-looked : {s : List ℕ} {at r : ℕ} → Looked s at r
+  source-looked : {s : List ℕ} {at r : ℕ} → Peeked s at r
       → source triggers s at ≡ (if sourceFits triggers r then got (sourceMeant r) (at + 1) else bad)
   unfolding source
   source-looked {s} {at} {r} l =
@@ -99,10 +99,10 @@ module _ (triggers : ℕ) where
 
   -- by an answer of `terms::source_fits`
   module _ (t : Bool) {r : ℕ} (e : t ≡ sourceFits triggers r) where
-    pub source-admitted : {s : List ℕ} {at : ℕ} → Looked s at r → not t ≡ false → source triggers s at ≡ got (sourceMeant r) (at + 1)
+    pub source-admitted : {s : List ℕ} {at : ℕ} → Peeked s at r → not t ≡ false → source triggers s at ≡ got (sourceMeant r) (at + 1)
     source-admitted l h = rw (source-looked l, ← e, not-false t h)
 
-    pub source-refused : {s : List ℕ} {at : ℕ} → Looked s at r → not t ≡ true → source triggers s at ≡ bad
+    pub source-refused : {s : List ℕ} {at : ℕ} → Peeked s at r → not t ≡ true → source triggers s at ≡ bad
     source-refused l h = rw (source-looked l, ← e, not-true t h)
 
     pub admitted-small : not t ≡ false → r < 8

@@ -26,7 +26,7 @@ use Rattle.slots.proofs.Order.{strict}
 use Rattle.room.proofs.Live.{rows-length}
 use Rattle.room.proofs.Kept.{kept-below, kept-above, transition-kept}
 use Rattle.transition.proofs.Lookups.{live-kept, rows-kept, still-live}
-use Rattle.transition.specs.Shown.{slotIn, RoomFor, Grown, Live, insertedOf, deletedOf, newOf, oldOf, Ready, Shown, Bare, Emptied}
+use Rattle.transition.specs.Shown.{slotIn, RoomFor, Grown, LiveRises, insertedOf, deletedOf, newOf, oldOf, RoomForAll, Shown, Bare, AllBare}
 
 -- ---- Emptying
 
@@ -41,7 +41,7 @@ made-bare : {base : ℕ} {xs ys : List ℕ} → Holds base ROWS xs ys [] → Bar
 made-bare h = record { stands = h .stands; none = h .list }
 
 pub all-emptied : {x0 x1 x2 x3 x4 : List ℕ} → Holds INSERTED ROWS x0 x1 [] → Holds DELETED ROWS x1 x2 [] → Holds NEW ROWS x2 x3 []
-    → Holds OLD ROWS x3 x4 [] → Emptied x0 x4
+    → Holds OLD ROWS x3 x4 [] → AllBare x0 x4
 unfolding tableBytes
 all-emptied {x0} {x1} {x2} {x3} {x4} a b c d =
     let f4 : Frame OLD CHOSEN x3 x4 = frame-wider (d .frame) (omega arith) (omega arith) in
@@ -88,7 +88,7 @@ pub record Begun (rule : Rule) (k : ℕ) (x : List ℕ) : Type 0 where
   pub sorted : Sorted (tableAt x LIVE)
   pub few : Few (drawnFor x k rule)
 
-begin : {rule : Rule} {xs x : List ℕ} (k : ℕ) → Laid xs → k < 16 → Sorted (tableAt xs LIVE) → Few (drawnFor xs k rule) → Emptied xs x
+begin : {rule : Rule} {xs x : List ℕ} (k : ℕ) → Laid xs → k < 16 → Sorted (tableAt xs LIVE) → Few (drawnFor xs k rule) → AllBare xs x
     → Begun rule k x
 begin {rule} k w b s few e =
     record {
@@ -184,7 +184,7 @@ pub record Drawing (rule : Rule) (k : ℕ) (x0 x : List ℕ) (n left : ℕ) : Ty
   pub old : Part (oldOf rule (liveRows x0)) OLD (tableAt x0 (waitAt k)) x (n - left)
 
 pub draw-start : {rule : Rule} {xs x : List ℕ} (k n : ℕ) → Laid xs → k < 16 → Sorted (tableAt xs LIVE) → Few (drawnFor xs k rule)
-    → Emptied xs x → n ≡ low32At x (waitAt k) → Drawing rule k x x n n
+    → AllBare xs x → n ≡ low32At x (waitAt k) → Drawing rule k x x n n
 draw-start k n w h s few b q =
     let none : n - n ≡ 0 = omega arith in
     record {
@@ -206,7 +206,7 @@ module _ {rule : Rule} {x0 x : List ℕ} (k n left : ℕ) (d : Drawing rule k x0
   rows-same : liveRows x ≡ liveRows x0
   rows-same = rows-kept (d .frame) (omega arith) (d .begun .laid .live)
 
-  pub draw-live : Live x
+  pub draw-live : LiveRises x
   draw-live = still-live (d .frame) (omega arith) (record { stands = d .begun .laid .live; sorted = d .begun .sorted })
 
   pub draw-wait : Stands (waitAt k) ENTRIES x
@@ -222,7 +222,7 @@ module _ {rule : Rule} {x0 x : List ℕ} (k n left : ℕ) (d : Drawing rule k x0
     inside : n - left < length (tableAt x0 (waitAt k))
     inside = omega (arith, d .size, d .most, table-length x0 (waitAt k))
 
-    pub draw-ready : Ready rule (slotIn x (waitAt k) (n - left)) x
+    pub draw-ready : RoomForAll rule (slotIn x (waitAt k) (n - left)) x
     draw-ready =
         let few : Few (drawnFor x0 k rule) = d .begun .few in
         let i : ℕ = n - left in
@@ -301,7 +301,7 @@ module _ {x y : List ℕ} (k : ℕ) (w : Laid x) (b : k < 16) (h : Holds (waitAt
         stretch = stands-kept-above (h .frame) STRETCH ENTRIES (w .stretch) (omega arith);
       }
 
-pub draw-done : {rule : Rule} {xs x0 x y : List ℕ} (k n left : ℕ) → Laid xs → Emptied xs x0
+pub draw-done : {rule : Rule} {xs x0 x y : List ℕ} (k n left : ℕ) → Laid xs → AllBare xs x0
     → Drawing rule k x0 x n left → left ≤ 0 → Holds (waitAt k) ENTRIES x y [] → Drew xs y k rule
 unfolding tableBytes
 draw-done {rule} {xs} {x0} {x} {y} k n left w e d z h =

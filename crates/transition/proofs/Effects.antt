@@ -21,7 +21,7 @@ use Rattle.slots.proofs.Tables.{table-kept-below, table-kept-above, stands-kept
 use Rattle.room.specs.declared.Watch.{Watch}
 use Rattle.room.specs.Room.{INSERTED, DELETED, NEW, OLD, CHOSEN, ROWS, watchRule, rowMeant, rowsMeant, effectMeant, liveRows}
 use Rattle.room.proofs.Live.{rows-pushed}
-use Rattle.transition.specs.Shown.{RoomFor, Grown, Added, insertedOf, deletedOf, newOf, oldOf, Ready, Shown}
+use Rattle.transition.specs.Shown.{RoomFor, Grown, Added, insertedOf, deletedOf, newOf, oldOf, RoomForAll, Shown}
 
 -- ---- One table
 
@@ -170,7 +170,7 @@ module _ (rule : Rule) (rows : List Row) (e : Slot) where
 
 -- ---- The four tables, by what the effect shows in each
 
-module _ {rule : Rule} {e : Slot} {xs : List ℕ} (w : Ready rule e xs) where
+module _ {rule : Rule} {e : Slot} {xs : List ℕ} (w : RoomForAll rule e xs) where
   pub shown-nowhere : Tells rule (liveRows xs) e none none none none → Shown rule e xs xs
   shown-nowhere t =
       record {

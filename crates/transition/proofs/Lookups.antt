@@ -15,7 +15,7 @@ use Rattle.slots.proofs.Tables.{table-length, table-kept-below, stands-kept-bel
 use Rattle.slots.proofs.Order.{find-at}
 use Rattle.room.specs.Room.{LIVE, INSERTED, ROWS, rowMeant, rowsMeant, liveRows}
 use Rattle.room.proofs.Live.{rowAt-found, rowAt-nowhere}
-use Rattle.transition.specs.Shown.{Live}
+use Rattle.transition.specs.Shown.{LiveRises}
 
 pub live-below : (xs : List ℕ) (h : ℕ) {i : ℕ} → findIn h (tableAt xs LIVE) ≡ At i → i < low32At xs LIVE
 live-below xs h f = omega (arith, find-at h (tableAt xs LIVE) f .0, table-length xs LIVE)
@@ -39,7 +39,7 @@ module _ {lo hi : ℕ} {xs ys : List ℕ} (f : Frame lo hi xs ys) (h : INSERTED 
   unfolding liveRows
   rows-kept s = ap rowsMeant (live-kept s)
 
-  pub still-live : Live xs → Live ys
+  pub still-live : LiveRises xs → LiveRises ys
   unfolding tableBytes
   still-live l =
       record { stands = stands-kept-below f LIVE ROWS (l .stands) (omega arith); sorted = rw (live-kept (l .stands)) (l .sorted) }

@@ -40,7 +40,7 @@ pub record Added (base : ℕ) (xs ys : List ℕ) (o : Option Row) : Type 0 where
 -- ---- The four tables
 
 -- the live rows stand by rising handle
-pub record Live (xs : List ℕ) : Type 0 where
+pub record LiveRises (xs : List ℕ) : Type 0 where
   pub stands : Stands LIVE ROWS xs
   pub sorted : Sorted (tableAt xs LIVE)
 
@@ -59,7 +59,7 @@ module _ (rule : Rule) (rows : List Row) (e : Slot) where
   oldOf = oldRow rule (effectMeant e)
 
 -- each has room for it
-pub record Ready (rule : Rule) (e : Slot) (xs : List ℕ) : Type 0 where
+pub record RoomForAll (rule : Rule) (e : Slot) (xs : List ℕ) : Type 0 where
   pub inserted : RoomFor INSERTED xs (insertedOf rule (liveRows xs) e)
   pub deleted : RoomFor DELETED xs (deletedOf rule (liveRows xs) e)
   pub new : RoomFor NEW xs (newOf rule (liveRows xs) e)
@@ -81,7 +81,7 @@ pub record Bare (base : ℕ) (ys : List ℕ) : Type 0 where
   pub none : tableAt ys base ≡ []
 
 -- none of the four does, and nothing else changed
-pub record Emptied (xs ys : List ℕ) : Type 0 where
+pub record AllBare (xs ys : List ℕ) : Type 0 where
   pub frame : Frame INSERTED CHOSEN xs ys
   pub inserted : Bare INSERTED ys
   pub deleted : Bare DELETED ys

@@ -8,14 +8,14 @@ ghost use Rattle.words.specs.Words.{low32At};
 ghost use Rattle.slots.specs.Slots.{tableAt, Stands, Sorted};
 ghost use Rattle.room.specs.Room.{LIVE, END, ENTRIES, Laid, watchRule, liveRows};
 ghost use Rattle.room.specs.Drawn.{drawnFor, Few, Drew};
-ghost use Rattle.transition.specs.Shown.{slotIn, ownIn, RoomFor, Added, Live, Ready, Shown, Emptied};
+ghost use Rattle.transition.specs.Shown.{slotIn, ownIn, RoomFor, Added, LiveRises, RoomForAll, Shown, AllBare};
 use room::Watch;
 use slots::Found;
 
 // The live row with a handle, if it is of the rule's own table, joins a transition table. The answer is the place after it, the first
 // to try for the next handle.
 fn draw_live(room: &mut [u8], base: usize, near: usize, rule: Watch, handle: u32) -> usize
-    requires { ⌜ Live (now room) ⌝ }
+    requires { ⌜ LiveRises (now room) ⌝ }
     requires { ⌜ RoomFor base (now room) (liveRow (watchRule rule) (liveRows (now room)) handle) ⌝ }
     ensures { λ _. ⌜ Added base (now (room .entry)) (now (room .exit)) (liveRow (watchRule rule) (liveRows (now (room .entry))) handle) ⌝ }
 {
@@ -44,8 +44,8 @@ fn draw_updated(room: &mut [u8], near: usize, rule: Watch, wait: usize, i: usize
     requires { ⌜ Stands wait ENTRIES (now room) ⌝ }
     requires { ⌜ i < low32At (now room) wait ⌝ }
     requires { ⌜ slotIn (now room) wait i .kind ≡ 3 ⌝ }
-    requires { ⌜ Live (now room) ⌝ }
-    requires { ⌜ Ready (watchRule rule) (slotIn (now room) wait i) (now room) ⌝ }
+    requires { ⌜ LiveRises (now room) ⌝ }
+    requires { ⌜ RoomForAll (watchRule rule) (slotIn (now room) wait i) (now room) ⌝ }
     ensures { λ _. ⌜ Shown (watchRule rule) (slotIn (now (room .entry)) wait i) (now (room .entry)) (now (room .exit)) ⌝ }
 {
     if words::meet(slots::mask_at(room, wait, room::ENTRIES, i), rule.columns) {
@@ -60,8 +60,8 @@ fn draw_updated(room: &mut [u8], near: usize, rule: Watch, wait: usize, i: usize
 fn draw_one(room: &mut [u8], near: usize, rule: Watch, wait: usize, i: usize) -> usize
     requires { ⌜ Stands wait ENTRIES (now room) ⌝ }
     requires { ⌜ i < low32At (now room) wait ⌝ }
-    requires { ⌜ Live (now room) ⌝ }
-    requires { ⌜ Ready (watchRule rule) (slotIn (now room) wait i) (now room) ⌝ }
+    requires { ⌜ LiveRises (now room) ⌝ }
+    requires { ⌜ RoomForAll (watchRule rule) (slotIn (now room) wait i) (now room) ⌝ }
     ensures { λ _. ⌜ Shown (watchRule rule) (slotIn (now (room .entry)) wait i) (now (room .entry)) (now (room .exit)) ⌝ }
 {
     let kind = slots::kind_at(room, wait, room::ENTRIES, i);
@@ -82,7 +82,7 @@ fn draw_one(room: &mut [u8], near: usize, rule: Watch, wait: usize, i: usize) ->
 // The four transition tables have no row any more.
 pub fn empty_tables(room: &mut [u8])
     requires { ⌜ END ≤ length (now room) ⌝ }
-    ensures { λ _. ⌜ Emptied (now (room .entry)) (now (room .exit)) ⌝ }
+    ensures { λ _. ⌜ AllBare (now (room .entry)) (now (room .exit)) ⌝ }
 {
     slots::empty(room, room::INSERTED, room::ROWS);
     slots::empty(room, room::DELETED, room::ROWS);

@@ -33,7 +33,7 @@ lowBytes4 n = n % 256 ∷ n / 256 % 256 ∷ n / 65536 % 256 ∷ n / 16777216 % 2
 
 -- A look at a place: the byte, or 256 past the end. The second part says, in words of arithmetic, that a byte below 256 stands in the
 -- slice.
-pub record Looked (s : List ℕ) (at r : ℕ) : Type 0 where
+pub record Peeked (s : List ℕ) (at r : ℕ) : Type 0 where
   pub is : r ≡ byteAt s at
   pub inside : at < length s + r / 256 * 18446744073709551616
   pub small : r < 257

@@ -12,7 +12,7 @@ ghost use Rattle.meaning.specs.Base.{bit};
 ghost use Rattle.meaning.specs.ByteLayouts.{bytes2, bytes4, comparison};
 ghost use Rattle.meaning.specs.Values.{signed};
 ghost use Rattle.meaning.specs.Values.{agree as Values·agree, compare as Values·compare, plus as Values·plus};
-ghost use Rattle.words.specs.Words.{word16At, word32At, low32At, lowBytes4, Looked, sumMeant};
+ghost use Rattle.words.specs.Words.{word16At, word32At, low32At, lowBytes4, Peeked, sumMeant};
 
 // The word of a sum, or that it leaves 32 bits.
 pub enum Sum {
@@ -47,7 +47,7 @@ fn join4(a: u8, b: u8, c: u8, d: u8) -> u32
 
 // The byte at a place, and 256 past the end.
 pub fn byte(s: &[u8], at: usize) -> usize
-    ensures { λ r. ⌜ Looked (now (s .entry)) at r ⌝ }
+    ensures { λ r. ⌜ Peeked (now (s .entry)) at r ⌝ }
 {
     if at < s.len() { wide(s[at]) } else { 256 }
 }

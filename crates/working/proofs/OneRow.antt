@@ -22,18 +22,18 @@ use Rattle.slots.specs.Slots.{tableAt, tableBytes, Stands, Holds, blank, withVa
 use Rattle.slots.proofs.Frames.{frame-refl, frame-trans, word-kept-below}
 use Rattle.slots.proofs.Tables.{table-length, table-kept-below, stands-kept-below}
 use Rattle.room.specs.Room.{CHOSEN, WORKED, ROWS, rowMeant}
-use Rattle.working.specs.Working.{workedRow, Works, Ready, RowWorked}
+use Rattle.working.specs.Working.{workedRow, Works, AsChosen, RowWorked}
 use Rattle.working.proofs.Expressions.{Working, working-start, working-done, working-bad, working-unset, working-out, working-set}
 
 -- ---- What changes
 
 -- of x0, which was ready for row i, worked row i alone has changed
 pub record Changed (x0 x : List ℕ) (i : ℕ) : Type 0 where
-  pub ready : Ready x0 i
+  pub ready : AsChosen x0 i
   pub works : Works x0 x
   pub others : tableAt x WORKED ≡ set (tableAt x0 WORKED) i (getD (tableAt x WORKED) i blank)
 
-pub changed-start : {x : List ℕ} {i : ℕ} → Ready x i → Changed x x i
+pub changed-start : {x : List ℕ} {i : ℕ} → AsChosen x i → Changed x x i
 changed-start {x} {i} r =
     record {
       ready = r;
@@ -86,7 +86,7 @@ pub record Storing (x0 x book : List ℕ) (mask at i here c : ℕ) : Type 0 wher
   pub working : Working book mask (chosenRow x0 i) (wanted x0 book mask at i) (getD (tableAt x WORKED) i blank) here c
 
 module _ (book : List ℕ) (mask : ℕ) where
-  pub storing-start : {x : List ℕ} {i : ℕ} (at : ℕ) → Ready x i → Storing x x book mask at i at 0
+  pub storing-start : {x : List ℕ} {i : ℕ} (at : ℕ) → AsChosen x i → Storing x x book mask at i at 0
   storing-start {x} {i} at r =
       record { changed = changed-start r; working = rw (r .same) (working-start book mask at (getD (tableAt x CHOSEN) i blank)) }
 

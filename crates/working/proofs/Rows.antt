@@ -20,7 +20,7 @@ use Rattle.slots.proofs.Frames.{frame-refl, frame-trans}
 use Rattle.slots.proofs.Tables.{table-length, table-kept-below, stands-kept-below, holds-size}
 use Rattle.room.specs.Room.{CHOSEN, WORKED, ROWS, Laid, rowMeant, rowsMeant, rowsWith}
 use Rattle.room.proofs.Live.{rows-pushed}
-use Rattle.working.specs.Working.{workedRow, allWorked, Works, Ready, RowWorked, WorkedOut, WorkedValues}
+use Rattle.working.specs.Working.{workedRow, allWorked, Works, AsChosen, RowWorked, WorkedOut, WorkedValues}
 
 -- ---- What is left of a list, by its length: the last `left` of n
 
@@ -183,7 +183,7 @@ module _ {x0 x : List ℕ} {es : List Expression} {mask n left : ℕ} (t : Turni
     y-sized : low32At y WORKED ≡ n - left + 1
     y-sized = holds-size WORKED ROWS p ∙ simp length-append (omega (arith, here))
 
-    pub turning-ready : Ready y (n - left)
+    pub turning-ready : AsChosen y (n - left)
     unfolding tableBytes
     turning-ready =
         record {

@@ -33,7 +33,7 @@ pub record Works (xs ys : List ℕ) : Type 0 where
   pub stands : Stands WORKED ROWS ys
 
 -- worked row i is chosen row i so far
-pub record Ready (xs : List ℕ) (i : ℕ) : Type 0 where
+pub record AsChosen (xs : List ℕ) (i : ℕ) : Type 0 where
   pub chosen : Stands CHOSEN ROWS xs
   pub worked : Stands WORKED ROWS xs
   pub below : i < low32At xs CHOSEN

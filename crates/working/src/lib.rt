@@ -16,7 +16,7 @@ ghost use Rattle.slots.specs.Slots.{tableAt, Stands};
 ghost use Rattle.slots.specs.Slots as Slots;
 ghost use Rattle.terms.specs.Terms.{expressionMeant};
 ghost use Rattle.room.specs.Room.{CHOSEN, ROWS, Laid, rowMeant};
-ghost use Rattle.working.specs.Working.{withCell, Ready, RowWorked, WorkedOut, WorkedValues};
+ghost use Rattle.working.specs.Working.{withCell, AsChosen, RowWorked, WorkedOut, WorkedValues};
 use slots::Slot;
 use terms::Expression;
 use terms::ExpressionRead;
@@ -129,7 +129,7 @@ fn work_out(room: &[u8], x: Expression, i: usize) -> Sum
 // Worked row i, which is chosen row i so far, gets the value of an expression over the chosen row for
 // each set bit of a mask, lowest first; false if a sum leaves 32 bits.
 fn work_out_row(room: &mut [u8], book: &[u8], at: usize, mask: usize, i: usize) -> bool
-    requires { ⌜ Ready (now room) i ⌝ }
+    requires { ⌜ AsChosen (now room) i ⌝ }
     requires { ⌜ mask ≤ 15 ⌝ }
     ensures { λ r. ⌜ RowWorked (now (room .entry)) (now (room .exit)) (readable (ones mask) expression (now (book .entry)) at) mask i r ⌝ }
 {

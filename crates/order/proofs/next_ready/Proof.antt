@@ -2,7 +2,7 @@
 use mathlib.Core.Path.{sym, _∙_}
 use native.Mathlib.Omega.{arith}
 use Rattle.meaning.specs.Base.{firstWith}
-use Rattle.order.specs.Order.{nextMeant, mayGo}
+use Rattle.order.specs.Order.{readyMeant, mayGo}
 use Rattle.order.proofs.Counted.{Counted, all-left, first-goes-on, first-is-here, none-to-go}
 use Rattle.order.proofs.next_ready.Statement.{statement}
 use Rattle.order.proofs.next_ready.Tie as tie
@@ -14,7 +14,7 @@ abbrev μ-loop : tie.MeasureT-loop
 μ-loop masks taken n left₀ left = left
 
 returns : tie.Need-returns Inv-loop μ-loop
-unfolding nextMeant
+unfolding readyMeant
 returns c =
     first-is-here
     (c .before .before .before .loop .inv)
@@ -29,7 +29,7 @@ loop-again c =
     (sym (c .before .is-ready .ensures) ∙ c .if1 .left)
 
 returns-2 : tie.Need-returns-2 Inv-loop μ-loop
-unfolding nextMeant
+unfolding readyMeant
 returns-2 c = none-to-go (c .before .loop .inv) (omega arith)
 
 pub next-ready-spec : {M : Type 1} → statement M
