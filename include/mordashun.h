@@ -10,7 +10,7 @@
  *
  *   - A pointer to bytes is not NULL, and as many bytes as its length says can be read there; of an output and
  *     a working room they can also be written. Where the length is 0 the pointer may point anywhere.
- *   - An output, a working room and the number behind `at` overlap nothing else that the same call is lent.
+ *   - An output and a working room overlap nothing else that the same call is lent.
  *   - Until the call returns, nobody else writes what it was lent, and nobody else reads what it may write.
  *
  * Within these a call takes any bytes and any lengths: what is malformed is refused, and what is too short is
@@ -92,11 +92,15 @@ uint64_t mordashun_run(const uint8_t *image, size_t image_length,
 uint64_t mordashun_check(const uint8_t *book, size_t book_length, uint8_t *output, size_t output_length);
 
 /*
- * The bytes of rule k (from 0, in the order of creation), as a part of the caller's book: the answer is how many
- * they are, at least 9 of any rule, and *at, whatever it held before, is where in the book the first stands;
- * *at + answer is not past book_length. Both are 0 if the book has refusal 4 or 5 or there is no rule k.
+ * The bytes of rule k (from 0, in the order of creation), as a part of the caller's book. The answer is one word,
+ * which the functions below take apart:
+ *
+ *   bits 0..31   the size: how many bytes, at least 9 of any rule
+ *   bits 32..63  the start: where in the book the first stands; start + size is not past book_length
+ *
+ * The word is 0 if the book has refusal 4 or 5 or there is no rule k, and never else. Nothing is written.
  */
-size_t mordashun_rule(const uint8_t *book, size_t book_length, size_t k, size_t *at);
+uint64_t mordashun_rule(const uint8_t *book, size_t book_length, size_t k);
 
 /* The parts of a word. */
 
@@ -111,6 +115,12 @@ static inline unsigned mordashun_reason_of(uint64_t word) { return (unsigned)(wo
 
 /* of a run the number of considerations, of a book check the rule count */
 static inline uint32_t mordashun_count_of(uint64_t word) { return (uint32_t)(word >> 32); }
+
+/* of a rule: where in the book its bytes start */
+static inline size_t mordashun_start_of(uint64_t word) { return (size_t)(word >> 32); }
+
+/* of a rule: how many bytes it has, 0 if there is no such rule */
+static inline size_t mordashun_size_of(uint64_t word) { return (size_t)(word & 0xffffffff); }
 
 /* The length of the image at the front of an output, after a run that was not refused: its first four bytes
    count, big-endian, those that follow them. */

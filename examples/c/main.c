@@ -54,8 +54,9 @@ static void print_image(const uint8_t *image)
 
 static void print_rule(const uint8_t *book, size_t length, size_t k)
 {
-    size_t at;
-    size_t size = mordashun_rule(book, length, k, &at);
+    uint64_t word = mordashun_rule(book, length, k);
+    size_t at = mordashun_start_of(word);
+    size_t size = mordashun_size_of(word);
     printf("rule %zu: %zu bytes at %zu of the book:", k, size, at);
     for (size_t i = 0; i < size; i++) {
         printf(" %02X", book[at + i]);

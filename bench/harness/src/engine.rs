@@ -16,7 +16,7 @@ extern "C" {
         room_size: usize,
     ) -> u64;
     fn mordashun_check(book: *const u8, book_size: usize, out: *mut u8, out_size: usize) -> u64;
-    fn mordashun_rule(book: *const u8, book_size: usize, k: usize, at: *mut usize) -> usize;
+    fn mordashun_rule(book: *const u8, book_size: usize, k: usize) -> u64;
 }
 
 pub fn run(input: &Input, out: &mut [u8], room: &mut [u8]) -> Word {
@@ -44,9 +44,10 @@ pub fn check(book: &[u8], out: &mut [u8]) -> Word {
 }
 
 pub fn rule(book: &[u8], k: usize) -> Place {
-    let mut at = usize::MAX;
-    let size = unsafe { mordashun_rule(book.as_ptr(), book.len(), k, &mut at) };
-    at..at.saturating_add(size)
+    let word = unsafe { mordashun_rule(book.as_ptr(), book.len(), k) };
+    let start = (word >> 32) as usize;
+    let size = word as u32 as usize;
+    start..start + size
 }
 
 /// A run whose stack is `stack`, so that its bytes can be looked at after it.

@@ -20,7 +20,7 @@ extern "C" {
         output: *mut u8,
         output_length: usize,
     ) -> u64;
-    fn mordashun_rule(book: *const u8, book_length: usize, k: usize, at: *mut usize) -> usize;
+    fn mordashun_rule(book: *const u8, book_length: usize, k: usize) -> u64;
 }
 
 /// The word that a run answers.
@@ -49,10 +49,8 @@ pub fn check(book: &[u8], out: &mut [u8]) -> u64 {
     unsafe { mordashun_check(book.as_ptr(), book.len(), out.as_mut_ptr(), out.len()) }
 }
 
-/// Where in the book the bytes of rule k start, and how many they are.
-pub fn rule(book: &[u8], k: usize) -> (usize, usize) {
-    let mut at = 0;
-    // SAFETY: a slice with its length, and a number of this function's own, which overlaps nothing.
-    let size = unsafe { mordashun_rule(book.as_ptr(), book.len(), k, &mut at) };
-    (at, size)
+/// The word of where the bytes of rule k stand in the book.
+pub fn rule(book: &[u8], k: usize) -> u64 {
+    // SAFETY: a slice with its length, which is only read.
+    unsafe { mordashun_rule(book.as_ptr(), book.len(), k) }
 }

@@ -144,8 +144,7 @@ pub fn check(book: &[u8]) -> Result<Vec<u8>, Refusal> {
 
 /// The bytes of rule k as a part of the book: empty if the book has refusal 4 or 5 or there is no rule k.
 pub fn rule(book: &[u8], k: usize) -> &[u8] {
-    let (at, size) = c::rule(book, k);
-    &book[at..at + size]
+    &book[word::place(c::rule(book, k))]
 }
 
 /// How long the image at the front of an output is: its first four bytes count those that follow them.

@@ -299,6 +299,8 @@ fn words_of_every_count_come_apart() {
     );
     assert_eq!(word::checked(16 << 32), Ok(16));
     assert_eq!(word::checked(4), Err(Refusal::BookMalformed));
+    assert_eq!(word::place(8 << 32 | 18), 8..26);
+    assert_eq!(word::place(0), 0..0);
 }
 
 #[test]

@@ -1,5 +1,7 @@
-//! Answers taken apart. Bits of a word: 0..7 the refusal, 8..15 the outcome, 16..23 the reason, 32..63 the count.
+//! Answers taken apart. Bits of a word: 0..7 the refusal, 8..15 the outcome, 16..23 the reason, 32..63 the count; of
+//! the word of a rule: 0..31 the size, 32..63 the start.
 use crate::{Outcome, Reason, Refusal, CHECK_OUTPUT};
+use std::ops::Range;
 
 /// The answer of a run: a refusal, or the outcome and the number of considerations.
 pub fn ran(word: u64) -> Result<(Outcome, u32), Refusal> {
@@ -27,6 +29,13 @@ pub fn checked(word: u64) -> Result<usize, Refusal> {
         None if word as u32 == 0 && rules <= CHECK_OUTPUT => Ok(rules),
         _ => unknown(word),
     }
+}
+
+/// Where in the book the bytes of a rule stand: an empty part if there is no such rule.
+pub fn place(word: u64) -> Range<usize> {
+    let start = (word >> 32) as usize;
+    let size = word as u32 as usize;
+    start..start + size
 }
 
 /// The refusal, if there is one: all other bits are then 0.

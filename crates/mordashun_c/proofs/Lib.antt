@@ -1,3 +1,6 @@
 pub mod Words
-pub mod Few
-pub mod Standing
+pub mod Unchanged
+pub mod BooksRead
+pub mod Sizes
+pub mod RulePlaces
+pub mod Determined

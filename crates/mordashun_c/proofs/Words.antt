@@ -8,13 +8,12 @@ use Rattle.meaning.specs.Covers as Covers
 use Rattle.meaning.specs.Covers.{commit, rolledBack, stepLimit, failed, noSuchRow, full, handlesUsedUp, sumOutOfRange}
 use Rattle.meaning.specs.EntryPoints as EntryPoints
 use Rattle.meaning.specs.EntryPoints.{refusalNumber, outcomeNumber, failureNumber, reasonNumber}
-use Rattle.meaning.specs.EntryPoints.{refusedWith, ran, refusedCheck, ruleCount}
 use Rattle.meaning.specs.EntryPoints.{outputTooShort, roomTooShort, imageMalformed, bookMalformed, precedesCycle}
 use Rattle.meaning.specs.EntryPoints.{logMalformed, inputTooLong}
 use Rattle.engine.specs.Answers.{answerMeant, checkMeant, Runs, Checks}
 use Rattle.engine.specs.declared.Answer.{Answer}
 use Rattle.engine.specs.declared.Checked.{Checked}
-use Rattle.mordashun_c.specs.Answered.{answerWord, checkWord, Holds, RunAnswered, CheckAnswered}
+use Rattle.mordashun_c.specs.Answered.{answerWord, checkWord, Bits, EveryWord, RunAnswered, CheckAnswered}
 
 -- ---- Numbers are small
 
@@ -52,7 +51,7 @@ check-answered r e = record { word = rw (r .result) e; output = rw (r .result) }
 -- ---- The numbers of a word
 
 -- four numbers that fit their bits
-apart : (r o n c w : ℕ) → r ≤ 255 → o ≤ 255 → n ≤ 255 → w ≡ r + o * 256 + n * 65536 + c * 4294967296 → Holds w r o n c
+apart : (r o n c w : ℕ) → r ≤ 255 → o ≤ 255 → n ≤ 255 → w ≡ r + o * 256 + n * 65536 + c * 4294967296 → Bits w r o n c
 apart r o n c w a b d e =
     record {
       refusalBits = omega arith;
@@ -72,21 +71,14 @@ refusal-small precedesCycle = omega arith
 refusal-small logMalformed = omega arith
 refusal-small inputTooLong = omega arith
 
-pub refused-holds : (r : EntryPoints.Refusal) → Holds (answerWord (refusedWith r)) (refusalNumber r) 0 0 0
-unfolding answerWord
-refused-holds r = let small = refusal-small r in apart _ _ _ _ _ (omega arith) (omega arith) (omega arith) (omega arith)
-
-pub ran-holds : (o : Covers.Outcome) (n : ℕ) → Holds (answerWord (ran o n)) 0 (outcomeNumber o) (reasonNumber o) n
-unfolding answerWord
-ran-holds o n =
-    let small = outcome-small o in
-    let few = reason-small o in
-    apart _ _ _ _ _ (omega arith) (omega arith) (omega arith) (omega arith)
-
-pub refused-check-holds : (r : EntryPoints.Refusal) → Holds (checkWord (refusedCheck r)) (refusalNumber r) 0 0 0
-unfolding checkWord
-refused-check-holds r = let small = refusal-small r in apart _ _ _ _ _ (omega arith) (omega arith) (omega arith) (omega arith)
-
-pub rules-hold : (n : ℕ) → Holds (checkWord (ruleCount n)) 0 0 0 n
-unfolding checkWord
-rules-hold n = apart _ _ _ _ _ (omega arith) (omega arith) (omega arith) (omega arith)
+pub every-word : EveryWord
+unfolding answerWord checkWord
+every-word = record {
+  ofRefusedRun = λ r. let small = refusal-small r in apart _ _ _ _ _ (omega arith) (omega arith) (omega arith) (omega arith);
+  ofRun = λ o n.
+      let small = outcome-small o in
+      let few = reason-small o in
+      apart _ _ _ _ _ (omega arith) (omega arith) (omega arith) (omega arith);
+  ofRefusedCheck = λ r. let small = refusal-small r in apart _ _ _ _ _ (omega arith) (omega arith) (omega arith) (omega arith);
+  ofCheck = λ n. apart _ _ _ _ _ (omega arith) (omega arith) (omega arith) (omega arith);
+}

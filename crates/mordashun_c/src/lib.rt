@@ -11,15 +11,21 @@
 //   32..63  of a run the number of considerations, 0..1,000; of a book check the rule count, 0..16
 //
 // Where the refusal is not 0, all other bits are.
+//
+// The place of a rule in the caller's book is one word too, 0 if there is none:
+//
+//   0..31   how many bytes
+//   32..63  where the first stands
 ghost use mathlib.Core.Path.{_≡_};
-ghost use Prim.Native.Nat.{_≤_};
+ghost use Prim.Native.Nat.{_+_, _*_, _≤_, _<_};
+ghost use lib.ListN.{length};
 ghost use Rattle.meaning.specs.Covers.{mostSteps, mostRules};
 ghost use Rattle.meaning.specs.EntryPoints as EntryPoints;
 ghost use Rattle.meaning.specs.EntryPoints.{refusalNumber, ruleCount};
 ghost use Rattle.processing.specs.Endings.{outcomeMeant};
 ghost use Rattle.engine.specs.Answers.{refusalMeant};
 ghost use Rattle.mordashun_c.specs.Answered.{answerWord, checkWord, RunAnswered, CheckAnswered};
-ghost use Rattle.mordashun_c.specs.Places.{StandsAmong, RuleStands};
+ghost use Rattle.mordashun_c.specs.Places.{ruleWord, wordAmong};
 use book::BookRead;
 use book::RuleRead;
 use engine::Answer;
@@ -35,13 +41,10 @@ const REASON: u64 = 65536;
 
 const COUNT: u64 = 4294967296;
 
-// Where bytes stand in a book.
-struct Place {
-    start: usize,
-    size: usize,
-}
+// What one of a start is worth in the word of a place.
+const START: u64 = 4294967296;
 
-const NOWHERE: Place = Place { start: 0, size: 0 };
+const NOWHERE: u64 = 0;
 
 // The word of a refusal: its number, and every other bit 0.
 fn refused(r: Refusal) -> u64
@@ -98,29 +101,39 @@ pub extern "C" fn mordashun_check(book: &[u8], out: &mut [u8]) -> u64
     }
 }
 
-// Where rule k of a well-formed book of n rules stands.
-fn place_in(book: &[u8], n: usize, k: usize) -> Place
+// The word of a place: start and size fit their bits.
+fn place(start: usize, size: usize) -> u64
+    requires { ⌜ start < 4294967296 ⌝ }
+    requires { ⌜ size < 4294967296 ⌝ }
+    ensures { λ w. ⌜ w ≡ start * 4294967296 + size ⌝ }
+{
+    start as u64 * START + size as u64
+}
+
+// The place of rule k of a well-formed book of n rules. Any book that is read is as short as its length field
+// can say, so start and size fit their bits.
+fn place_in(book: &[u8], n: usize, k: usize) -> u64
     requires { ⌜ n ≤ 16 ⌝ }
-    ensures { λ r. ⌜ StandsAmong (now (book .entry)) n k (r .start) (r .size) ⌝ }
+    requires { ⌜ length (now book) ≤ 4294967299 ⌝ }
+    ensures { λ w. ⌜ w ≡ wordAmong (now (book .entry)) n k ⌝ }
 {
     if n <= k {
         return NOWHERE;
     }
     match book::rules_end(book, n, book::FIRST, k) {
         End::At(start) => match book::rule_at(book, n, start) {
-            RuleRead::Is { rule: _, next } => Place {
-                start,
-                size: next - start,
-            },
+            RuleRead::Is { rule: _, next } => place(start, next - start),
             RuleRead::Bad => NOWHERE,
         },
         End::Short => NOWHERE,
     }
 }
 
-// Where rule k stands: nowhere if the book has refusal 4 or 5 or there is no rule k.
-fn place_of(book: &[u8], k: usize) -> Place
-    ensures { λ r. ⌜ RuleStands (now (book .entry)) k (r .start) (r .size) ⌝ }
+// The bytes of rule k as a part of the caller's book: the word of their place, 0 if the book has refusal 4 or 5
+// or there is no rule k.
+#[no_mangle]
+pub extern "C" fn mordashun_rule(book: &[u8], k: usize) -> u64
+    ensures { λ w. ⌜ w ≡ ruleWord (now (book .entry)) k ⌝ }
 {
     match book::judge(book) {
         BookRead::Is { limit: _, count } => {
@@ -133,15 +146,4 @@ fn place_of(book: &[u8], k: usize) -> Place
         }
         BookRead::Bad => NOWHERE,
     }
-}
-
-// The bytes of rule k as a part of the caller's book: how many they are, and in `at` where the first stands.
-// Both are 0 if the book has refusal 4 or 5 or there is no rule k.
-#[no_mangle]
-pub extern "C" fn mordashun_rule(book: &[u8], k: usize, at: &mut usize) -> usize
-    ensures { λ r. ⌜ RuleStands (now (book .entry)) k (now (at .exit)) r ⌝ }
-{
-    let place = place_of(book, k);
-    *at = place.start;
-    place.size
 }

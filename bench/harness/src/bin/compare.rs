@@ -4,7 +4,7 @@
 //! Arguments: how many inputs, and the first seed (0 if there is none).
 
 use harness::generate;
-use harness::{engine, opinion, Input, Place, Word, CHECK, OUTPUT, ROOM};
+use harness::{engine, opinion, Input, Word, CHECK, OUTPUT, ROOM};
 use std::env;
 use std::process::ExitCode;
 use std::time::Instant;
@@ -193,10 +193,6 @@ fn wanted_run(input: &Input, lent: &Lent, out: &mut [u8]) -> Word {
     opinion::run(input, out)
 }
 
-fn same_place(a: &Place, b: &Place) -> bool {
-    a == b || a.is_empty() && b.is_empty()
-}
-
 /// Compares both on one input; what differs first, if anything does.
 fn compare(seed: u64, input: &Input, buffers: &mut Buffers, tally: &mut Tally) -> Option<String> {
     let lent = Lent::of(seed);
@@ -234,7 +230,7 @@ fn compare(seed: u64, input: &Input, buffers: &mut Buffers, tally: &mut Tally) -
     for k in 0..ASKED {
         let wanted = opinion::rule(&input.book, k);
         let place = engine::rule(&input.book, k);
-        if !same_place(&place, &wanted) {
+        if place != wanted {
             return Some(format!(
                 "rule {k}: engine {place:?}, second opinion {wanted:?}"
             ));

@@ -1,11 +1,12 @@
--- `mordashun_c::place_of` meets its contract: a rule of a book that is refused stands nowhere, and one of any other where it was found.
+-- `mordashun_c::mordashun_rule` meets its contract: a book that is refused has no place for a rule, and any other the one that was found.
 use borrow.Author.Needs.{needs}
 use borrow.Author.Tests.{not-true, not-false}
 use denote.Ref.{now}
 use Rattle.engine.proofs.Judged.{refused-malformed, told, without-order}
-use Rattle.mordashun_c.proofs.Standing.{refused-nowhere, stands-given}
-use Rattle.mordashun_c.proofs.place_of.Statement.{statement}
-use Rattle.mordashun_c.proofs.place_of.Tie as tie
+use Rattle.mordashun_c.proofs.BooksRead.{book-told}
+use Rattle.mordashun_c.proofs.RulePlaces.{refused-nowhere, place-given}
+use Rattle.mordashun_c.proofs.mordashun_rule.Statement.{statement}
+use Rattle.mordashun_c.proofs.mordashun_rule.Tie as tie
 
 plan-of-requires : tie.Need-plan-of-requires
 plan-of-requires c κs =
@@ -27,7 +28,9 @@ place-in-requires : tie.Need-place-in-requires
 place-in-requires c κs =
     let planned = c .before .before .before in
     let judged = planned .before .before .before .before in
-    told (now (judged .before .before .args .book)) (judged .judge .ensures .1) (planned .before .before .count .given .1) .few
+    let s = now (judged .before .before .args .book) in
+    let w = told s (judged .judge .ensures .1) (planned .before .before .count .given .1) in
+    (w .few, book-told s _ (w .book) .short)
 
 returns-2 : tie.Need-returns-2
 returns-2 c =
@@ -37,7 +40,7 @@ returns-2 c =
     let s = now (a .book) in
     let w = told s (judged .judge .ensures .1) (planned .before .before .count .given .1) in
     let plan = planned .plan-of in
-    stands-given s (a .k) _ _ (plan .result) w (plan .ensures) (not-false _ (c .before .if1 .left)) (c .place-in .ensures)
+    place-given s (a .k) _ _ (plan .result) w (plan .ensures) (not-false _ (c .before .if1 .left)) (c .place-in .ensures)
 
 returns-3 : tie.Need-returns-3
 returns-3 c =
@@ -46,8 +49,8 @@ returns-3 c =
     let s = now (a .book) in
     refused-nowhere s (a .k) _ (refused-malformed s _ (judged .judge .ensures .0) (c .enum-told .given .1))
 
-pub place-of-spec : {M : Type 1} → statement M
-place-of-spec =
+pub mordashun-rule-spec : {M : Type 1} → statement M
+mordashun-rule-spec =
     tie.close
     (tie.spec
     (λ c κs. search needs)
