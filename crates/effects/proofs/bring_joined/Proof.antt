@@ -1,4 +1,5 @@
 -- `effects::bring_joined` meets its contract: the joined slot is pushed, unless the kinds, or the slot itself, say that nothing is left.
+use native.Mathlib.Omega.{arith}
 use borrow.Author.Needs.{needs}
 use Rattle.effects.proofs.SpareTable.{joined-nothing, joined-none, joined-free, joined-pushed}
 use Rattle.effects.proofs.bring_joined.Statement.{statement}
