@@ -10,7 +10,7 @@ use Rattle.meaning.specs.Covers.{mostSteps}
 use Rattle.meaning.specs.EntryPoints.{run, resultOf, answerOf, countOf, verdict, runOutput, workingRoom}
 use Rattle.meaning.specs.Runs.{Spoken, isRefused, isAccepted}
 use Rattle.meaning.proofs.RunsFit.{run-limit}
-use Rattle.meaning.proofs.Theorems.{every-run, ends}
+use Rattle.meaning.proofs.Theorems.{every-run, is-lawful}
 use Rattle.engine.specs.Answers.{answerMeant, Runs}
 use Rattle.engine.specs.declared.Answer.the-variants.{Ran}
 use Rattle.processing.specs.declared.Outcome.{Outcome}
@@ -21,7 +21,7 @@ verdict-counted image book log = go (every-run image book log)
   where
     go : Spoken image book log → countOf (answerOf (verdict image book log)) ≤ mostSteps
     go (isRefused r e) = rw e (omega arith)
-    go (isAccepted a e) = rw e (omega (arith, ends a .counted, run-limit a))
+    go (isAccepted a e) = rw e (omega (arith, is-lawful a .within, run-limit a))
 
 pub run-counted : (image book log output room : List ℕ) → countOf (run image book log output room .answer) ≤ mostSteps
 unfolding run resultOf countOf answerOf

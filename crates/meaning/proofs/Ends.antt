@@ -1,26 +1,21 @@
--- Every run ends in a known way: by cases of its outcome, by counting its considerations, and, unless it commits, by the round trip of
--- the start image. Every run is refused or accepted, and what a call leaves is a function of what it was lent.
-use mathlib.Core.Path.{_≡_, refl, sym, ap, _∙_}
+-- Every run is refused or accepted, by cases of what is read. An accepted one ends in a known way: by cases of its outcome, and, unless it
+-- commits, by the round trip of the start image.
+use mathlib.Core.Path.{_≡_, refl, ap, _∙_}
 use mathlib.Core.Logic.{_≢_}
 use mathlib.Core.List.{List}
 use mathlib.Core.Option.{Option, none, some}
-use Prim.Native.Nat.{ℕ, _+_, _≤_}
+use Prim.Native.Nat.{ℕ, _≤_}
 use native.Mathlib.Omega.{arith}
 use Rattle.meaning.specs.Reading.{readAll}
-use Rattle.meaning.specs.Covers.{Image, Book, Rule, LogOperation, Outcome, Reason, commit, rolledBack, stepLimit, failed, noSuchRow}
+use Rattle.meaning.specs.Covers.{Image, Book, LogOperation, Outcome, Reason, commit, rolledBack, stepLimit, failed, noSuchRow}
 use Rattle.meaning.specs.Covers.{full, handlesUsedUp, sumOutOfRange}
 use Rattle.meaning.specs.ByteLayouts
 use Rattle.meaning.specs.ByteLayouts.{imageBytes}
-use Rattle.meaning.specs.Processing.{State, Ending, ended, afterEvents}
 use Rattle.meaning.specs.EntryPoints.{accepted, JudgedBook, refusedBook, acceptedBook, judgeBook, withBook, verdict, imageMalformed}
 use Rattle.meaning.specs.EntryPoints.{logMalformed, outcomeNumber, failureNumber, reasonNumber, handedBack, written}
-use Rattle.meaning.specs.Trace.{considerationsIn}
-use Rattle.meaning.specs.Theorems.{EveryRun, Ends, Determined}
+use Rattle.meaning.specs.Theorems.{EveryRun, Ends}
 use Rattle.meaning.specs.Runs.{Accepted, endingOf, Spoken, isRefused, isAccepted}
 use Rattle.meaning.proofs.RoundTrip.{round-trip}
-use Rattle.meaning.proofs.Traces.{considerations-append, considerations-made, one-consideration, Steps, commits, meetsLimit}
-use Rattle.meaning.proofs.Traces.{endsRun, goesOn, Runs, logEnds, logDone}
-use Rattle.meaning.proofs.RunsFit.{run-steps}
 
 -- ---- Refused or accepted
 
@@ -54,35 +49,6 @@ every-run image book log = onImage (readAll ByteLayouts.image image) refl
     onImage : (r : Option Image) → readAll ByteLayouts.image image ≡ r → Spoken image book log
     onImage none e = isRefused imageMalformed (rw e)
     onImage (some start) e = onBook start e (judgeBook book) refl
-
--- ---- The count
-
--- the count of an ending, from `count` with `left` more allowed
-record Counted (left count : ℕ) (e : Ending) : Type 0 where
-  pub within : e .count ≤ count + left
-  pub exact : e .count ≡ count + considerationsIn (e .trace)
-
-module _ (rules : List Rule) (order : List ℕ) where
-  -- each step spends one consideration
-  steps-count : {left count : ℕ} {s : State} {e : Ending} → Steps rules order left count s e → Counted left count e
-  unfolding ended afterEvents considerationsIn
-  steps-count (commits t) = record { within = omega arith; exact = omega arith }
-  steps-count (meetsLimit t) = record { within = omega arith; exact = omega arith }
-  steps-count (endsRun {k = k} {s = s} {new = new} t c) =
-      record { within = omega arith; exact = rw (one-consideration rules s k new) (omega arith) }
-  steps-count (goesOn {k = k} {s = s} {new = new} t c more) =
-      let h = steps-count more in
-      record { within = omega arith; exact = rw (considerations-append, one-consideration rules s k new) (omega arith) }
-
-  runs-count : {limit : ℕ} {log : List LogOperation} {start : Image} {e : Ending} → Runs rules order limit log start e → Counted limit 0 e
-  unfolding ended afterEvents
-  runs-count (logEnds {new = new} l) = record { within = omega arith; exact = rw (considerations-made new) }
-  runs-count (logDone {new = new} l more) =
-      let h = steps-count more in
-      record { within = h .within; exact = rw (considerations-append, considerations-made new) (omega arith) }
-
-run-count : {image book log : List ℕ} (a : Accepted image book log) → Counted (a .ruleBook .limit) 0 (endingOf a)
-run-count a = runs-count (a .ruleBook .rules) (a .order) (run-steps a)
 
 -- ---- The outcome
 
@@ -127,19 +93,8 @@ pub every-ends : {image book log : List ℕ} (a : Accepted image book log) → E
 unfolding written
 every-ends {image} {book} {log} a = record {
   known = known-outcome (endingOf a .outcome);
-  counted = omega (arith, run-count a .within);
-  exact = omega (arith, run-count a .exact);
   reasonless = no-reason (endingOf a .outcome);
   reasoned = some-reason (endingOf a .outcome);
   unchanged = λ n. ap written (accepted-verdict a) ∙ ap imageBytes (handed-start (endingOf a .outcome) (a .start) (endingOf a .image) n)
       ∙ round-trip image (a .start) (a .imageRead);
-}
-
--- ---- Determined
-
-pub determined : Determined
-determined = record {
-  ofRun = λ image book log output room one other p q. p ∙ sym q;
-  ofCheck = λ book output one other p q. p ∙ sym q;
-  ofRule = λ book k one other p q. p ∙ sym q;
 }

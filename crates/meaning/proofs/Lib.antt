@@ -4,14 +4,14 @@ pub mod Lists
 -- Images, and operations that fit them
 pub mod Lookups
 pub mod Images
--- Images as bytes (2)
+-- Byte layouts (1)
 pub mod Parsing
 pub mod RoundTrip
 pub mod WrittenRead
--- The total order (7)
+-- The total order (5)
 pub mod Orders
 pub mod Cycles
--- Net effects of operations that fit (5, 8, 9)
+-- Net effects of operations that fit (3)
 pub mod Masks
 pub mod JoinTable
 pub mod NetEffects
@@ -24,11 +24,14 @@ pub mod Traces
 pub mod ActionsFit
 pub mod StepsFit
 pub mod RunsFit
--- Runs (1, 3, 4, 6)
+-- How a run ends (2)
 pub mod Ends
+-- Processing (4)
 pub mod Marks
-pub mod Given
+pub mod States
+pub mod Lawful
+pub mod OnlyLawful
 pub mod Joined
-pub mod Quiet
+pub mod Conditions
 -- All statements
 pub mod Theorems

@@ -10,7 +10,7 @@ use native.Mathlib.Omega.{arith}
 use lib.Dec.{eqb}
 use lib.ListN.{length, drop, getElem?}
 use borrow.Author.Tests.{eqb-true, eqb-false, eq-eqb}
-use Rattle.meaning.specs.Base.{if_then_else_, upFrom, any, all, select, firstWith, Each, noElement, anElement}
+use Rattle.meaning.specs.Base.{if_then_else_, maybe, upFrom, any, all, select, firstWith, Each, noElement, anElement}
 
 -- ---- Bools
 
@@ -54,6 +54,11 @@ pub there-below : {A : Type 0} (xs : List A) (k : ℕ) (x : A) → getElem? xs k
 there-below [] k x q = clash refl q
 there-below (y ∷ ys) zero x q = omega arith
 there-below (y ∷ ys) (suc k) x q = let h = there-below ys k x q in omega arith
+
+-- what passes a test is there
+pub some-passes : {A : Type 0} (p : A → Bool) (o : Option A) → maybe o false p ≡ true → (x : A) × (o ≡ some x)
+some-passes p none h = true-is-false h refl
+some-passes p (some x) h = (x, refl)
 
 -- ---- Lists of which each element is so
 
@@ -190,17 +195,6 @@ has-none p k xs h n = go (p k) refl
     go : (b : Bool) → p k ≡ b → b ≡ false
     go true e = true-is-false (has-any p k xs h e) n
     go false e = refl
-
--- of two places of a number, up to the one none passes: nor does any up to the other, if the number is not before it
-pub none-earlier : (p : ℕ → Bool) (k : ℕ) (before after front back : List ℕ) → before ++ (k ∷ after) ≡ front ++ (k ∷ back)
-    → any p before ≡ false → has k front ≡ false → any p front ≡ false
-none-earlier p k before after [] back q n h = refl
-none-earlier p k [] after (x ∷ front) back q n h =
-    let e : k ≡ x = cc in true-is-false (or-left (eqb k x) (has k front) (eq-eqb k x e)) h
-none-earlier p k (y ∷ before) after (x ∷ front) back q n h =
-    let e : x ≡ y = cc in
-    let f = none-earlier p k before after front back (cc) (or-false (p y) (any p before) n .1) (or-false (eqb k x) (has k front) h .1) in
-    rw (e, or-false (p y) (any p before) n .0) f
 
 -- what all elements pass, each member passes
 pub has-all : (p : ℕ → Bool) (k : ℕ) (xs : List ℕ) → has k xs ≡ true → all p xs ≡ true → p k ≡ true

@@ -1,24 +1,21 @@
 -- In every state of a run, the operations after a rule's mark are those after its last consideration in the trace so far: a consideration
 -- moves the rule's own mark to the end, and operations join what waits for every rule. So what waits for a rule can be read off the trace.
 use mathlib.Core.Path.{_≡_, refl, sym, ap, _∙_}
-use mathlib.Core.Logic.{_⊎_, inl, inr}
-use mathlib.Core.Bool.{Bool, true, false, _&&_}
+use mathlib.Core.Bool.{Bool, true, false}
 use mathlib.Core.List.{List, [], _∷_, _++_, map}
-use mathlib.Core.Option.{Option, none, some}
+use mathlib.Core.Option.{some}
 use Prim.Native.Nat.{ℕ, zero, suc, _≤_, _<_}
 use native.Mathlib.Omega.{arith}
 use lib.Dec.{eqb}
 use lib.ListN.{length, getD, getElem?, drop, set, replicate, length-append, length-set, length-replicate}
 use lib.Seq.{append-snoc, drop-append-le, drop-append-seam, getD-set-same, getD-set-other}
 use borrow.Author.Tests.{eqb-true, eqb-false}
-use Rattle.meaning.specs.Base.{maybe, any}
 use Rattle.meaning.specs.Covers.{Image, Rule}
 use Rattle.meaning.specs.RowOperations.{RowOperation}
 use Rattle.meaning.specs.Processing.{State, Event, made, considered, since, waits, triggered, moved, consideration, firstTriggered}
 use Rattle.meaning.specs.Processing.{afterLog}
-use Rattle.meaning.specs.Processing.TransitionTables.{wakes}
 use Rattle.meaning.specs.Trace.{operationsIn, sinceOn, sinceLast}
-use Rattle.meaning.proofs.Lists.{true-is-false, and-true, and-false, there-below, First, first-is, first-none}
+use Rattle.meaning.proofs.Lists.{there-below, some-passes, first-is}
 use Rattle.meaning.proofs.Traces.{operations-append, operations-made, last-made, last-considered, last-other}
 
 -- no rule has a mark above the start
@@ -27,37 +24,9 @@ zeros zero k = refl
 zeros (suc n) zero = refl
 zeros (suc n) (suc k) = zeros n k
 
--- ---- A triggered rule
+-- ---- The states of a run
 
 module _ (rules : List Rule) where
-  -- rule k is in the book, it is active, and what waits for it wakes it
-  pub record Triggered (s : State) (k : ℕ) : Type 0 where
-    pub rule : Rule
-    pub inBook : getElem? rules k ≡ some rule
-    pub active : rule .active ≡ true
-    pub woken : any (λ p. wakes rule (p .1)) (waits s k) ≡ true
-
-  is-triggered : (s : State) (k : ℕ) → triggered rules s k ≡ true → Triggered s k
-  unfolding triggered
-  is-triggered s k t = go (getElem? rules k) refl t
-    where
-      go : (o : Option Rule) → getElem? rules k ≡ o → maybe o false (λ r. r .active && any (λ p. wakes r (p .1)) (waits s k)) ≡ true
-          → Triggered s k
-      go none e q = true-is-false q refl
-      go (some r) e q = let b = and-true (r .active) _ q in record { rule = r; inBook = e; active = b .0; woken = b .1 }
-
-  -- what waits for an active rule that is not triggered does not wake it
-  pub not-triggered : (s : State) (k : ℕ) (r : Rule) → getElem? rules k ≡ some r → r .active ≡ true → triggered rules s k ≡ false
-      → any (λ p. wakes r (p .1)) (waits s k) ≡ false
-  unfolding triggered
-  not-triggered s k r g a t = go (and-false (r .active) _ (rw g at t))
-    where
-      go : (r .active ≡ false) ⊎ (any (λ p. wakes r (p .1)) (waits s k) ≡ false) → any (λ p. wakes r (p .1)) (waits s k) ≡ false
-      go (inl e) = true-is-false a e
-      go (inr e) = e
-
-  -- ---- The states of a run
-
   -- in the state that a trace leads to, its operations are done, and those after a rule's mark are those since its last consideration
   pub record Follows (past : List Event) (s : State) : Type 0 where
     pub allDone : s .done ≡ operationsIn past
@@ -104,23 +73,13 @@ module _ (rules : List Rule) where
           (rw (← append-snoc past (considered k (waits s k)) (map made new))
           (ap (λ (os : List RowOperation). os ++ new) (f .waiting j ∙ sym (last-other j past k (waits s k) e)) ∙ sym (last-made j now new)))
 
-  -- ---- The search along the order
+  -- ---- Along a run
 
   module _ (order : List ℕ) where
-    -- the rule that is found is triggered, and none before it in the order is
-    pub picks : (s : State) {k : ℕ} → firstTriggered rules order s ≡ some k → First (triggered rules s) order k
-    unfolding firstTriggered
-    picks s {k} t = first-is (triggered rules s) order k t
-
-    -- where none is found, none in the order is triggered
-    pub picks-none : (s : State) → firstTriggered rules order s ≡ none → any (triggered rules s) order ≡ false
-    unfolding firstTriggered
-    picks-none s t = first-none (triggered rules s) order t
-
-    pub picks-triggered : (s : State) {k : ℕ} → firstTriggered rules order s ≡ some k → Triggered s k
-    picks-triggered s {k} t = is-triggered s k (picks s t .passes)
-
-    -- ---- Along a run
+    -- the first triggered rule is in the book
+    pub first-rule : (s : State) (k : ℕ) → firstTriggered rules order s ≡ some k → (r : Rule) × (getElem? rules k ≡ some r)
+    unfolding firstTriggered triggered
+    first-rule s k t = some-passes _ (getElem? rules k) (first-is (triggered rules s) order k t .passes)
 
     pub follows-log : (start : Image) (new : List RowOperation) → Follows (map made new) (afterLog rules order start new)
     unfolding afterLog since sinceLast sinceOn
@@ -135,4 +94,4 @@ module _ (rules : List Rule) where
     pub follows-considered : {past : List Event} {s : State} {k : ℕ} (new : List RowOperation) → Follows past s
         → firstTriggered rules order s ≡ some k → Follows (past ++ consideration rules s k new) (moved rules s k new)
     follows-considered {s = s} {k = k} new f t =
-        let r = picks-triggered s t in follows-moved new f (there-below rules k (r .rule) (r .inBook))
+        let r = first-rule s k t in follows-moved new f (there-below rules k (r .0) (r .1))

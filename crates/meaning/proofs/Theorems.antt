@@ -1,6 +1,6 @@
 -- Each statement of specs/Theorems.antt, proved, under its name: what the other files prove, put together.
 use mathlib.Core.Path.{_≡_, ap, _∙_}
-use mathlib.Core.List.{List, _∷_, _++_}
+use mathlib.Core.List.{List, _∷_, _++_, append-assoc}
 use Prim.Native.Nat.{ℕ}
 use native.Mathlib.Omega.{arith}
 use Rattle.meaning.specs.Covers.{commit}
@@ -9,8 +9,9 @@ use Rattle.meaning.specs.RowOperations.{inserts}
 use Rattle.meaning.specs.Processing.{made}
 use Rattle.meaning.specs.EntryPoints.{handedBack, verdict, written}
 use Rattle.meaning.specs.Trace.{operationsIn}
-use Rattle.meaning.specs.Runs.{Accepted, endingOf}
+use Rattle.meaning.specs.Runs.{Accepted, endingOf, waitsFor, imageAfter}
 use Rattle.meaning.specs.Theorems as Stated
+use Rattle.meaning.specs.Theorems.Lawful.{IsLawful, OnlyLawful}
 use Rattle.meaning.proofs.WrittenRead.{rises-true, written-read}
 use Rattle.meaning.proofs.Lookups.{all-next-rises, given-fresh, given-once}
 use Rattle.meaning.proofs.Images.{makeAll-sound}
@@ -19,25 +20,29 @@ use Rattle.meaning.proofs.Capacity.{capacity}
 use Rattle.meaning.proofs.Traces.{operations-append}
 use Rattle.meaning.proofs.RunsFit.{run-sound, run-made, run-replayed, run-end-sound, made-around, made-at, sound-since, made-since}
 use Rattle.meaning.proofs.Ends as Ends
-use Rattle.meaning.proofs.Given as Given
+use Rattle.meaning.proofs.Lawful as Lawful
+use Rattle.meaning.proofs.OnlyLawful as OnlyLawful
 use Rattle.meaning.proofs.Joined as Joined
-use Rattle.meaning.proofs.Quiet as Quiet
+use Rattle.meaning.proofs.Conditions as Conditions
 use Rattle.meaning.proofs.RoundTrip as RoundTrip
 use Rattle.meaning.proofs.NetEffects as NetEffects
 use Rattle.meaning.proofs.Orders as Orders
 use Rattle.meaning.proofs.Cycles as Cycles
 use Rattle.meaning.proofs.JoinTable as JoinTable
 
+-- ---- 1. Byte layouts
+
+pub round-trip : Stated.RoundTrip
+round-trip = RoundTrip.round-trip
+
+-- ---- 2. Entry points
+
 pub every-run : Stated.EveryRun
 every-run = Ends.every-run
 
 module _ {image book log : List ℕ} (a : Accepted image book log) where
-  -- ---- 1. Ends
-
   pub ends : Stated.Ends a
   ends = Ends.every-ends a
-
-  -- ---- 2. Runs chain
 
   hands-end : endingOf a .outcome ≡ commit → written (verdict image book log) ≡ imageBytes (endingOf a .image)
   unfolding written handedBack
@@ -52,83 +57,64 @@ module _ {image book log : List ℕ} (a : Accepted image book log) where
         onward = rw (run-replayed a) (all-next-rises (run-made a));
       }
 
-  -- ---- 3. Given
-
-  pub given : Stated.Given a
-  given = Given.given a
-
-  -- ---- 4. Joined
-
-  pub joined : Stated.Joined a
-  joined = Joined.joined a
-
-  -- ---- 5. From outside
-
-  pub from-outside : Stated.FromOutside a
-  from-outside = record { told = λ before after q h. net-outside (run-sound a) (made-at a before after q) h; replayed = run-replayed a }
-
-  -- ---- 6. Commit
-
-  pub commits : Stated.Commits a
-  commits =
-      record {
-        quiet = Quiet.quiet a;
-        limited = Quiet.spends a;
-        triggered = Quiet.unsettled a;
-        rows = λ h. rw (run-replayed a) (differs (run-sound a) (run-made a) h);
-      }
-
-  -- ---- 8. No run meets a marked join
-
-  pub reachable : Stated.Reachable a
-  reachable = Joined.reaches a
-
-  -- ---- 9. Sizes
-
-  pub sizes : Stated.Sizes a
-  unfolding operationsIn
-  sizes =
-      record {
-        live = λ before after q. makeAll-sound (run-sound a) (made-at a before after q) .rowsFit;
-        waiting = λ before after q k.
-            let s = sound-since a before after q k in
-            let d = made-since a before after q k in
-            omega (arith, capacity s d, s .rowsFit, makeAll-sound s d .rowsFit);
-        fresh = λ before after r q.
-            given-fresh (operationsIn before) r (operationsIn after) (made-around a before (made (inserts r) ∷ after) q);
-        once = λ before between after r s q.
-            given-once {m = a .start} (operationsIn before) r (operationsIn between) s (operationsIn after)
-            (rw (← operations-append before (made (inserts r) ∷ between))
-            (made-around a (before ++ (made (inserts r) ∷ between)) (made (inserts s) ∷ after) q));
-      }
-
--- ---- 2. Round trip
-
-pub round-trip : Stated.RoundTrip
-round-trip = RoundTrip.round-trip
+-- ---- 3. Row operations and net effects
 
 pub says-net : Stated.SaysNet
 says-net = NetEffects.says-net
 
--- ---- 3. Conditions
+pub join-table : Stated.JoinTable
+join-table = JoinTable.join-table
+
+module _ {image book log : List ℕ} (a : Accepted image book log) where
+  pub reachable : Stated.Reachable a
+  reachable = Joined.reaches a
+
+  pub from-outside : Stated.FromOutside a
+  unfolding imageAfter
+  from-outside =
+      record {
+        told = λ p h. net-outside (run-sound a) (made-at a (p .before) (p .after) (p .place)) h;
+        rows = λ h. rw (run-replayed a) (differs (run-sound a) (run-made a) h);
+      }
+
+  pub sizes : Stated.Sizes a
+  unfolding operationsIn waitsFor imageAfter
+  sizes =
+      record {
+        live = λ p. makeAll-sound (run-sound a) (made-at a (p .before) (p .after) (p .place)) .rowsFit;
+        waiting = λ p k.
+            let s = sound-since a (p .before) (p .after) (p .place) k in
+            let d = made-since a (p .before) (p .after) (p .place) k in
+            omega (arith, capacity s d, s .rowsFit, makeAll-sound s d .rowsFit);
+        fresh = λ m r o.
+            given-fresh (operationsIn (m .before)) r (operationsIn (m .after))
+            (made-around a (m .before) (made (inserts r) ∷ m .after) (rw (← o) (m .place)));
+        once = λ m r s between later o q.
+            given-once {m = a .start} (operationsIn (m .before)) r (operationsIn between) s (operationsIn later)
+            (rw (← operations-append (m .before) (made (inserts r) ∷ between))
+            (made-around a (m .before ++ (made (inserts r) ∷ between)) (made (inserts s) ∷ later)
+            (rw (append-assoc, ← o, ← q) (m .place))));
+      }
+
+-- ---- 4. Processing
+
+module _ {image book log : List ℕ} (a : Accepted image book log) where
+  pub is-lawful : IsLawful a
+  is-lawful = Lawful.is-lawful a
+
+  pub only-lawful : OnlyLawful a
+  only-lawful = OnlyLawful.only-lawful a
+
+  pub joined : Stated.Joined a
+  joined = Joined.joined a
 
 pub conditions : Stated.Conditions
-conditions = Given.conditions
+conditions = Conditions.conditions
 
--- ---- 7. Order
+-- ---- 5. Total order
 
 pub total-order : Stated.TotalOrder
 total-order = Orders.total-order
 
 pub cycles : Stated.Cycles
 cycles = Cycles.cycles
-
--- ---- 8. The join table
-
-pub join-table : Stated.JoinTable
-join-table = JoinTable.join-table
-
--- ---- 10. Determined
-
-pub determined : Stated.Determined
-determined = Ends.determined

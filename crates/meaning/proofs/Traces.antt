@@ -15,7 +15,6 @@ use Rattle.meaning.specs.Processing.{State, Event, made, considered, End
 use Rattle.meaning.specs.Processing.{consideration, firstTriggered, steps, afterLog, process}
 use Rattle.meaning.specs.Processing.Actions.{Result, went, ends, onward}
 use Rattle.meaning.specs.Trace.{operationsIn, considerationsIn, sinceOn, sinceLast, givenTo, joinedIn}
-use Rattle.meaning.proofs.Lists.{not-empty}
 
 -- ---- A choice
 
@@ -24,27 +23,6 @@ pub if-both : {A B : Type 0} (P : A → B → Type 0) (b : Bool) {x y : A} {u v 
     → P (if b then x else y) (if b then u else v)
 if-both P true p q = p
 if-both P false p q = q
-
--- ---- Any list, element by element
-
-module _ {A : Type 0} where
-  -- each element of a list holds its own, told of all that came before it
-  pub data Along (P : List A → A → Type 0) : List A → List A → Type 0 where
-    stop : {past : List A} → Along P past []
-    next : {past es : List A} {e : A} → P past e → Along P (past ++ (e ∷ [])) es → Along P past (e ∷ es)
-
-  module _ {P : List A → A → Type 0} where
-    pub along-front : (xs ys : List A) {past : List A} → Along P past (xs ++ ys) → Along P past xs
-    along-front [] ys a = stop
-    along-front (x ∷ xs) ys (next p a) = next p (along-front xs ys a)
-
-    -- what holds at each place holds along the list
-    pub along-each : (es : List A) {past : List A} → ((before after : List A) (e : A) → es ≡ before ++ (e ∷ after) → P (past ++ before) e)
-        → Along P past es
-    along-each [] f = stop
-    along-each (x ∷ es) {past} f =
-        next (rw append-nil at (f [] es x refl))
-        (along-each es (λ before after e q. rw (append-snoc past x before) (f (x ∷ before) after e (ap (λ (l : List A). x ∷ l) q))))
 
 -- ---- The operations of a trace
 
@@ -58,32 +36,6 @@ pub operations-made : (os : List RowOperation) → operationsIn (map made os) �
 unfolding operationsIn
 operations-made [] = refl
 operations-made (o ∷ os) = ap (λ (more : List RowOperation). o ∷ more) (operations-made os)
-
--- ---- Operations, and a consideration of rule k after them
-
-module _ (k : ℕ) (given : NetEffect) where
-  -- there is no consideration among operations
-  pub made-only : {A : Type 0} (new : List RowOperation) (before after : List Event) → map made new ≡ before ++ (considered k given ∷ after)
-      → A
-  made-only [] before after q = not-empty before (considered k given) after q
-  made-only (o ∷ new) [] after q = absurd (let z : _≡_ {A = ℕ} 0 1 = cc in omega arith)
-  made-only (o ∷ new) (e ∷ before) after q = made-only new before after (cc)
-
-  -- so one that comes after operations stands behind them
-  pub record Behind (new : List RowOperation) (es before after : List Event) : Type 0 where
-    pub between : List Event
-    pub past : before ≡ map made new ++ between
-    pub split : es ≡ between ++ (considered k given ∷ after)
-
-  pub behind : (new : List RowOperation) (es before after : List Event) → map made new ++ es ≡ before ++ (considered k given ∷ after)
-      → Behind new es before after
-  behind [] es before after q = record { between = before; past = refl; split = q }
-  behind (o ∷ new) es [] after q = absurd (let z : _≡_ {A = ℕ} 0 1 = cc in omega arith)
-  behind (o ∷ new) es (e ∷ before) after q =
-      go (cc) (behind new es before after (cc))
-    where
-      go : e ≡ made o → Behind new es before after → Behind (o ∷ new) es (e ∷ before) after
-      go same b = record { between = b .between; past = rw (same, b .past); split = b .split }
 
 -- ---- The considerations of a trace
 

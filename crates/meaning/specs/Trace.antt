@@ -1,15 +1,16 @@
 -- What is said of a trace: its operations, the places in it, the stretches between the considerations of a rule, what follows the log and a
 -- consideration, and what a handle's rows and masks alone say of a stretch, without the join table.
 use mathlib.Core.Path.{_≡_}
-use mathlib.Core.Bool.{Bool, true, false, _&&_}
+use mathlib.Core.Bool.{false}
 use mathlib.Core.List.{List, [], _∷_, _++_, map}
 use mathlib.Core.Option.{Option, none, some}
 use Prim.Native.Nat.{ℕ, suc}
 use lib.Dec.{eqb}
 use lib.Bits.{bitOr}
 use Rattle.meaning.specs.Base.{if_then_else_, bit}
-use Rattle.meaning.specs.Covers.{Row, Image, Outcome, commit, stepLimit}
-use Rattle.meaning.specs.RowOperations.{RowOperation, inserts, deletes, updates, Effect, NetEffect, makeAll, join, effectAt, nothing, inserted, deleted, updated}
+use Rattle.meaning.specs.Covers.{Row, commit, stepLimit}
+use Rattle.meaning.specs.RowOperations.{RowOperation, inserts, deletes, updates, Effect, NetEffect, join, effectAt, nothing}
+use Rattle.meaning.specs.RowOperations.{inserted, deleted, updated}
 use Rattle.meaning.specs.Processing.{Event, made, considered, Ending}
 use Rattle.meaning.specs.Processing.Queries.{cell}
 use Rattle.meaning.specs.Processing.Actions.{Result, went, ends}
@@ -80,13 +81,11 @@ pub data Rest (e : Ending) : List Event → Type 0 where
   atCommit : e .outcome ≡ commit → Rest e []
   atLimit : e .outcome ≡ stepLimit → Rest e []
 
--- What follows is exactly the operations of a result, and then the rest; or, where the result ends the run, exactly its operations and no
--- more: then the run's outcome is the result's, and its count is the one given here.
-pub data Makes (e : Ending) (count : ℕ) (result : Result) (events : List Event) : Type 0 where
-  goesOn : (new : List RowOperation) (rest : List Event) → result ≡ went new → events ≡ map made new ++ rest → Rest e rest
-      → Makes e count result events
-  endsRun : (o : Outcome) (new : List RowOperation) → result ≡ ends o new → events ≡ map made new → e .outcome ≡ o → e .count ≡ count
-      → Makes e count result events
+-- These events are exactly the operations of a result. Where it goes on, the rest follows; where it ends the run, nothing follows, and the
+-- run's outcome is the result's.
+abbrev pub Makes : Ending → Result → List Event → Type 0
+Makes e (went new) events = (rest : List Event) × (events ≡ map made new ++ rest) × Rest e rest
+Makes e (ends o new) events = (events ≡ map made new) × (e .outcome ≡ o)
 
 -- ---- A handle from outside
 

@@ -22,7 +22,7 @@ use Rattle.meaning.specs.EntryPoints.{run, resultOf, runOutput, workingRoom, mo
 use Rattle.meaning.specs.Runs.{Accepted, endingOf, isRefused, isAccepted}
 use Rattle.meaning.proofs.WrittenRead.{written-read}
 use Rattle.meaning.proofs.RunsFit.{run-sound, run-end-sound, run-limit}
-use Rattle.meaning.proofs.Theorems.{every-run, ends}
+use Rattle.meaning.proofs.Theorems.{every-run, is-lawful}
 use Rattle.image.specs.Images.{imageOr}
 use Rattle.image.specs.declared.ImageRead.{ImageRead}
 use Rattle.image.specs.declared.ImageRead.the-variants.{Is, Bad}
@@ -52,7 +52,7 @@ showable image book log = go (every-run image book log)
   where
     go : Rattle.meaning.specs.Runs.Spoken image book log → Showable (verdict image book log)
     go (isRefused r e) = rw e tt
-    go (isAccepted a e) = rw e (handed-read a (endingOf a .outcome), omega (arith, ends a .counted, run-limit a))
+    go (isAccepted a e) = rw e (handed-read a (endingOf a .outcome), omega (arith, is-lawful a .within, run-limit a))
 
 -- ---- A run's answer and output tell its verdict
 
