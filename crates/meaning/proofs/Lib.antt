@@ -30,5 +30,10 @@ pub mod Marks
 pub mod Given
 pub mod Joined
 pub mod Quiet
+-- Rows that a rule is shown, operations that an image admits
+pub mod Meets
+pub mod Shows
+pub mod Masked
+pub mod Admitted
 -- All statements
 pub mod Theorems

@@ -5,8 +5,9 @@ use Prim.Native.Nat.{ℕ}
 use native.Mathlib.Omega.{arith}
 use Rattle.meaning.specs.Covers.{commit}
 use Rattle.meaning.specs.ByteLayouts.{imageBytes}
-use Rattle.meaning.specs.RowOperations.{inserts}
+use Rattle.meaning.specs.RowOperations.{inserts, ownOf}
 use Rattle.meaning.specs.Processing.{made}
+use Rattle.meaning.specs.Processing.TransitionTables.{transition}
 use Rattle.meaning.specs.EntryPoints.{handedBack, verdict, written}
 use Rattle.meaning.specs.Trace.{operationsIn}
 use Rattle.meaning.specs.Runs.{Accepted, endingOf}
@@ -18,6 +19,10 @@ use Rattle.meaning.proofs.Lives.{net-outside, differs}
 use Rattle.meaning.proofs.Capacity.{capacity}
 use Rattle.meaning.proofs.Traces.{operations-append}
 use Rattle.meaning.proofs.RunsFit.{run-sound, run-made, run-replayed, run-end-sound, made-around, made-at, sound-since, made-since}
+use Rattle.meaning.proofs.OwnTable.{own-wakes, own-transition}
+use Rattle.meaning.proofs.Shows.{at-consideration}
+use Rattle.meaning.proofs.Shows as Shows
+use Rattle.meaning.proofs.Admitted as Admitted
 use Rattle.meaning.proofs.Ends as Ends
 use Rattle.meaning.proofs.Given as Given
 use Rattle.meaning.proofs.Joined as Joined
@@ -100,6 +105,22 @@ module _ {image book log : List ℕ} (a : Accepted image book log) where
             given-once {m = a .start} (operationsIn before) r (operationsIn between) s (operationsIn after)
             (rw (← operations-append before (made (inserts r) ∷ between))
             (made-around a (before ++ (made (inserts r) ∷ between)) (made (inserts s) ∷ after) q));
+      }
+
+  -- ---- Row operations, and the rows that a rule is shown
+
+  pub admitted : Stated.Admitted.Admitted a
+  admitted = Admitted.admitted a
+
+  pub shows : Stated.Shows.Shows a
+  shows = Shows.shows a
+
+  pub own-table : Stated.OwnTable.OwnTable a
+  own-table =
+      record {
+        wakes = own-wakes;
+        shows = λ c r q.
+            at-consideration a (λ n rows. transition r rows (ownOf (r .table) n) ≡ transition r rows n) (λ m os. own-transition r os) c;
       }
 
 -- ---- 2. Round trip
