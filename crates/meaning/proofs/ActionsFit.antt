@@ -38,10 +38,14 @@ pub record Four (vs : List ℤ) : Type 0 where
   pub four : length vs ≡ 4
   pub ranged : InRange vs
 
+-- a mask is 1..15
+abbrev pub IsMask : ℕ → Type 0
+IsMask mask = (1 ≤ mask) × (mask ≤ 15)
+
 pub data GoodOperation : LogOperation → Type 0 where
   goodInsert : {t : ℕ} {vs : List ℤ} → t ≤ 3 → Four vs → GoodOperation (insert t vs)
   goodDelete : {h : ℕ} → GoodOperation (delete h)
-  goodUpdate : {h mask : ℕ} {vs : List ℤ} → InRange vs → GoodOperation (update h mask vs)
+  goodUpdate : {h mask : ℕ} {vs : List ℤ} → IsMask mask → InRange vs → GoodOperation (update h mask vs)
 
 -- a sum is tested when it is worked out
 pub data GoodExpression : Expression → Type 0 where
@@ -55,7 +59,8 @@ pub data GoodAction : Action → Type 0 where
   goodInsertFrom : {t : ℕ} {q : Query} {es : List Expression} → t ≤ 3 → length es ≡ 4 → Each GoodExpression es
       → GoodAction (insertFromQuery t q es)
   goodDeleteRows : {t : ℕ} {ts : List Term} → GoodAction (deleteRows t ts)
-  goodUpdateRows : {t mask : ℕ} {es : List Expression} {ts : List Term} → Each GoodExpression es → GoodAction (updateRows t mask es ts)
+  goodUpdateRows : {t mask : ℕ} {es : List Expression} {ts : List Term} → IsMask mask → Each GoodExpression es
+      → GoodAction (updateRows t mask es ts)
 
 -- ---- Results whose operations fit
 
@@ -262,7 +267,7 @@ unfolding operate
 operate-made (insert t vs) m (goodInsert l f) s = insertAll-made t (vs ∷ []) m l (anElement f noElement)
 operate-made (delete h) m goodDelete s =
     maybe-made (rowAt h (m .rows)) (fails-made noSuchRow) (λ r e. deleteAll-made (r ∷ []) m (one-taken m h r s e))
-operate-made (update h mask vs) m (goodUpdate f) s =
+operate-made (update h mask vs) m (goodUpdate i f) s =
     maybe-made (rowAt h (m .rows)) (fails-made noSuchRow)
     (λ r e. updateAll-made mask (r ∷ []) (vs ∷ []) m (one-taken m h r s e) (anElement f noElement))
 
@@ -361,7 +366,7 @@ perform-made t (insertFromQuery n q es) m p (goodInsertFrom l k g) s =
     (λ r vs f d. let w = workOutAll-range es r vs f g d in record { four = w .0 ∙ k; ranged = w .1 })
     (chosen-ranged t m q p s) e .1))
 perform-made t (deleteRows n ts) m p goodDeleteRows s = deleteAll-made (chosen t (m .rows) (rowsOf n ts)) m (chosen-taken t m n ts s)
-perform-made t (updateRows n mask es ts) m p (goodUpdateRows g) s =
+perform-made t (updateRows n mask es ts) m p (goodUpdateRows i g) s =
     let rs = chosen t (m .rows) (rowsOf n ts) in
     maybe-made (eachOr (workOutAll es) rs) (fails-made sumOutOfRange) (λ vss e.
     updateAll-made mask rs vss m (chosen-taken t m n ts s)

@@ -33,5 +33,10 @@ pub mod Lawful
 pub mod OnlyLawful
 pub mod Joined
 pub mod Conditions
+-- Rows that a rule is shown, operations that an image admits (3, 6)
+pub mod Meets
+pub mod Shows
+pub mod Masked
+pub mod Admitted
 -- All statements
 pub mod Theorems

@@ -103,7 +103,7 @@ gather-own t f (anElement {x = p} {xs = ps} n rest) = go (onTable t (p .1)) refl
     go false e ih = rw (e, n e) ih
 
 -- what is so of each effect is so of each entry
-entries-each : {P : ℕ × Effect → Type 0} (g : ℕ → Effect) (hs : List ℕ) → ((h : ℕ) → P (h, g h)) → Each P (entries g hs)
+pub entries-each : {P : ℕ × Effect → Type 0} (g : ℕ → Effect) (hs : List ℕ) → ((h : ℕ) → P (h, g h)) → Each P (entries g hs)
 unfolding entry entries
 entries-each g [] so = noElement
 entries-each {P} g (h ∷ hs) so = go (g h) (so h) (entries-each g hs so)

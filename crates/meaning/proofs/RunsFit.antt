@@ -27,11 +27,12 @@ use Rattle.meaning.specs.Base.{Each}
 use Rattle.meaning.specs.Made.{InRange, Sound, Made}
 use Rattle.meaning.proofs.Lookups.{made-front, made-back}
 use Rattle.meaning.proofs.Images.{makeAll-sound}
-use Rattle.meaning.proofs.Parsing.{on-from-got, same-value, read-all, must-got, Reads, value-reads, many-each, framed-got}
+use Rattle.meaning.proofs.Parsing.{on-from-got, same-value, read-all, must-got, Reads, byte-reads, value-reads, many-each}
+use Rattle.meaning.proofs.Parsing.{framed-got}
 use Rattle.meaning.proofs.RoundTrip.{values-read, table-reads, image-sound}
 use Rattle.meaning.proofs.Traces.{operations-append, untilLast, until-last, Runs, runs}
-use Rattle.meaning.proofs.ActionsFit.{GoodOperation, goodInsert, goodDelete, goodUpdate, GoodExpression, goodFixed, goodColumn}
-use Rattle.meaning.proofs.ActionsFit.{goodSum, GoodAction, goodRollback, goodInsertRow, goodInsertFrom, goodDeleteRows}
+use Rattle.meaning.proofs.ActionsFit.{IsMask, GoodOperation, goodInsert, goodDelete, goodUpdate, GoodExpression, goodFixed}
+use Rattle.meaning.proofs.ActionsFit.{goodColumn, goodSum, GoodAction, goodRollback, goodInsertRow, goodInsertFrom, goodDeleteRows}
 use Rattle.meaning.proofs.ActionsFit.{goodUpdateRows}
 use Rattle.meaning.proofs.StepsFit.{GoodRule, Replays, runs-replay}
 
@@ -90,6 +91,10 @@ values-give n = reads-give (values-read n)
 pub table-gives : Gives ByteLayouts.table (λ t. (0 ≤ t) × (t ≤ 3))
 table-gives = reads-give table-reads
 
+mask-gives : Gives ByteLayouts.mask IsMask
+unfolding ByteLayouts.mask
+mask-gives = reads-give (byte-reads (omega arith))
+
 -- ---- Log
 
 insertion-gives : Gives ByteLayouts.insertion GoodOperation
@@ -105,8 +110,8 @@ deletion-gives = past-gives number32 (λ h. pure-gives goodDelete)
 change-gives : Gives ByteLayouts.change GoodOperation
 unfolding ByteLayouts.change
 change-gives =
-    past-gives number32 (λ h. past-gives ByteLayouts.mask (λ m. bind-gives (values-give (ones m)) (λ vs q.
-    pure-gives (goodUpdate (q .1)))))
+    past-gives number32 (λ h. bind-gives mask-gives (λ m i. bind-gives (values-give (ones m)) (λ vs q.
+    pure-gives (goodUpdate i (q .1)))))
 
 pub operation-gives : Gives ByteLayouts.operation GoodOperation
 unfolding ByteLayouts.operation ByteLayouts.operationOf
@@ -154,9 +159,9 @@ module _ (triggers : ℕ) where
   updateRows-gives : Gives (ByteLayouts.updateRows triggers) GoodAction
   unfolding ByteLayouts.updateRows
   updateRows-gives =
-      past-gives ByteLayouts.table (λ t. past-gives ByteLayouts.mask (λ m.
+      past-gives ByteLayouts.table (λ t. bind-gives mask-gives (λ m i.
       bind-gives (many-gives (ones m) expression-gives) (λ es c.
-      past-gives (ByteLayouts.terms triggers) (λ ts. pure-gives (goodUpdateRows (c .1))))))
+      past-gives (ByteLayouts.terms triggers) (λ ts. pure-gives (goodUpdateRows i (c .1))))))
 
   pub action-gives : Gives (ByteLayouts.action triggers) GoodAction
   unfolding ByteLayouts.action ByteLayouts.actionOf

@@ -100,7 +100,7 @@ made-rows {m} s (Of.more {o = updates k old new} (updateFits q d p) g) =
 
 -- ---- Transition tables
 
-gather-each : {A B : Type 0} {P : A → Type 0} {Q : B → Type 0} {xs : List A} (f : A → Option B)
+pub gather-each : {A B : Type 0} {P : A → Type 0} {Q : B → Type 0} {xs : List A} (f : A → Option B)
     → ((a : A) (b : B) → P a → f a ≡ some b → Q b) → Each P xs → Each Q (gather f xs)
 gather-each f g noElement = noElement
 gather-each {B = B} {Q = Q} f g (anElement {x = x} {xs = xs} p ps) = go (f x) refl (gather-each f g ps)

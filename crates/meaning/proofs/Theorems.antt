@@ -5,20 +5,24 @@ use Prim.Native.Nat.{ℕ}
 use native.Mathlib.Omega.{arith}
 use Rattle.meaning.specs.Covers.{commit}
 use Rattle.meaning.specs.ByteLayouts.{imageBytes}
-use Rattle.meaning.specs.RowOperations.{inserts}
+use Rattle.meaning.specs.RowOperations.{inserts, ownOf}
 use Rattle.meaning.specs.Processing.{made}
+use Rattle.meaning.specs.Processing.TransitionTables.{transition}
 use Rattle.meaning.specs.EntryPoints.{handedBack, verdict, written}
 use Rattle.meaning.specs.Trace.{operationsIn}
 use Rattle.meaning.specs.Runs.{Accepted, endingOf, waitsFor, imageAfter}
 use Rattle.meaning.specs.Theorems as Stated
-use Rattle.meaning.specs.Theorems.Lawful.{IsLawful, OnlyLawful}
-use Rattle.meaning.proofs.WrittenRead.{rises-true, written-read}
+use Rattle.meaning.proofs.WrittenRead.{written-read}
 use Rattle.meaning.proofs.Lookups.{all-next-rises, given-fresh, given-once}
 use Rattle.meaning.proofs.Images.{makeAll-sound}
 use Rattle.meaning.proofs.Lives.{net-outside, differs}
 use Rattle.meaning.proofs.Capacity.{capacity}
 use Rattle.meaning.proofs.Traces.{operations-append}
 use Rattle.meaning.proofs.RunsFit.{run-sound, run-made, run-replayed, run-end-sound, made-around, made-at, sound-since, made-since}
+use Rattle.meaning.proofs.OwnTable.{own-wakes, own-transition}
+use Rattle.meaning.proofs.Shows.{at-consideration}
+use Rattle.meaning.proofs.Shows as Shows
+use Rattle.meaning.proofs.Admitted as Admitted
 use Rattle.meaning.proofs.Ends as Ends
 use Rattle.meaning.proofs.Lawful as Lawful
 use Rattle.meaning.proofs.OnlyLawful as OnlyLawful
@@ -52,8 +56,6 @@ module _ {image book log : List ℕ} (a : Accepted image book log) where
   chains =
       record {
         reads = λ q. rw (hands-end q) (written-read (run-end-sound a));
-        rises = rises-true (run-end-sound a .rises);
-        fits = run-end-sound a .rowsFit;
         onward = rw (run-replayed a) (all-next-rises (run-made a));
       }
 
@@ -66,6 +68,9 @@ pub join-table : Stated.JoinTable
 join-table = JoinTable.join-table
 
 module _ {image book log : List ℕ} (a : Accepted image book log) where
+  pub admitted : Stated.Admitted.Admitted a
+  admitted = Admitted.admitted a
+
   pub reachable : Stated.Reachable a
   reachable = Joined.reaches a
 
@@ -81,7 +86,6 @@ module _ {image book log : List ℕ} (a : Accepted image book log) where
   unfolding operationsIn waitsFor imageAfter
   sizes =
       record {
-        live = λ p. makeAll-sound (run-sound a) (made-at a (p .before) (p .after) (p .place)) .rowsFit;
         waiting = λ p k.
             let s = sound-since a (p .before) (p .after) (p .place) k in
             let d = made-since a (p .before) (p .after) (p .place) k in
@@ -99,10 +103,10 @@ module _ {image book log : List ℕ} (a : Accepted image book log) where
 -- ---- 4. Processing
 
 module _ {image book log : List ℕ} (a : Accepted image book log) where
-  pub is-lawful : IsLawful a
+  pub is-lawful : Stated.Lawful.IsLawful a
   is-lawful = Lawful.is-lawful a
 
-  pub only-lawful : OnlyLawful a
+  pub only-lawful : Stated.Lawful.OnlyLawful a
   only-lawful = OnlyLawful.only-lawful a
 
   pub joined : Stated.Joined a
@@ -118,3 +122,17 @@ total-order = Orders.total-order
 
 pub cycles : Stated.Cycles
 cycles = Cycles.cycles
+
+-- ---- 6. Transition tables
+
+module _ {image book log : List ℕ} (a : Accepted image book log) where
+  pub shows : Stated.Shows.Shows a
+  shows = Shows.shows a
+
+  pub own-table : Stated.OwnTable.OwnTable a
+  own-table =
+      record {
+        wakes = own-wakes;
+        shows = λ c r q.
+            at-consideration a (λ n rows. transition r rows (ownOf (r .table) n) ≡ transition r rows n) (λ m os. own-transition r os) c;
+      }

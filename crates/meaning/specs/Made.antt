@@ -36,8 +36,11 @@ pub record Sound (m : Image) : Type 0 where
 
 -- an operation that may be made on an image
 pub data Fits (m : Image) : RowOperation → Type 0 where
+  -- an inserted row takes the next handle and is proper; there is room for it, and a handle left after it
   insertFits : {r : Row} → r .handle ≡ m .next → Proper r → length (m .rows) < mostRows → m .next < lastHandle → Fits m (inserts r)
+  -- a deleted row is the live row of its handle
   deleteFits : {r : Row} → rowAt (r .handle) (m .rows) ≡ some r → Fits m (deletes r)
+  -- an old row is the live row of its handle; the new one is proper and differs from it only in the columns of the mask
   updateFits : {mask : ℕ} {old new : Row} → rowAt (old .handle) (m .rows) ≡ some old → OnlyIn mask old new → Proper new
       → Fits m (updates mask old new)
 

@@ -11,7 +11,7 @@ use Rattle.meaning.specs.Base.{if_then_else_, any, all}
 use Rattle.meaning.specs.Reading.{readAll}
 use Rattle.meaning.specs.Covers.{mostRows, Row, Image, Book, Rule, Query, commit}
 use Rattle.meaning.specs.ByteLayouts
-use Rattle.meaning.specs.ByteLayouts.{imageBytes, rising}
+use Rattle.meaning.specs.ByteLayouts.{imageBytes}
 use Rattle.meaning.specs.EntryPoints.{verdict, refusedBook, judgeBook, precedesCycle, outcomeNumber, reasonNumber, written}
 use Rattle.meaning.specs.RowOperations.{Effect, RowOperation, NetEffect, inserts, nothing, kind, unreachable, joinKind, join, single}
 use Rattle.meaning.specs.RowOperations.{net, netEffect, effectAt, rowAt}
@@ -23,7 +23,10 @@ use Rattle.meaning.specs.Processing.Actions.{went}
 use Rattle.meaning.specs.Trace.{operationsIn, sinceLast, givenTo, joinedIn, Point, Making, masksOn, deletedIn, fromOutside, Differs}
 use Rattle.meaning.specs.Runs.{Accepted, endingOf, Spoken, waitsFor, imageAfter}
 -- Topics with a file of their own, by section: 1 Lengths, 2 Refusals, 3 Admitted, 4 Lawful, 6 Shows and OwnTable, 7 Chooses, 8 Reasons
+pub mod Admitted
 pub mod Lawful
+pub mod Shows
+pub mod OwnTable
 
 -- ---- 1. Byte layouts
 
@@ -53,8 +56,6 @@ module _ {image book log : List ℕ} (a : Accepted image book log) where
   -- runs chain: the image of a commit is itself accepted, and its next handle is no lower than before
   pub record Chains : Type 0 where
     pub reads : endingOf a .outcome ≡ commit → readAll ByteLayouts.image (written (verdict image book log)) ≡ some (endingOf a .image)
-    pub rises : rising 0 (endingOf a .image .next) (endingOf a .image .rows) ≡ true
-    pub fits : length (endingOf a .image .rows) ≤ mostRows
     pub onward : a .start .next ≤ endingOf a .image .next
 
 -- ---- 3. Row operations and net effects
@@ -109,8 +110,6 @@ module _ {image book log : List ℕ} (a : Accepted image book log) where
     pub rows : (h : ℕ) → Differs (net h (operationsIn (endingOf a .trace))) (rowAt h (a .start .rows)) (rowAt h (endingOf a .image .rows))
 
   pub record Sizes : Type 0 where
-    -- at most 64 rows are live at any point
-    pub live : (p : Point (endingOf a)) → length (imageAfter a (p .before) .rows) ≤ mostRows
     -- what waits for a rule never names more than 128 handles
     pub waiting : (p : Point (endingOf a)) (k : ℕ) → length (waitsFor k (p .before)) ≤ 2 * mostRows
     -- no handle is given twice: an insert's is not the start image's, nor an earlier insert's
