@@ -19,7 +19,7 @@ use Rattle.meaning.specs.Processing.TransitionTables.{transition}
 use Rattle.meaning.specs.Trace.{operationsIn, sinceLast, deletedIn, fromOutside, masksOn, Differs, stays, comes, goes, changes}
 use Rattle.meaning.specs.Trace.{Consideration}
 use Rattle.meaning.specs.Made.{Sound, Made}
-use Rattle.meaning.specs.Runs.{Accepted, endingOf, imageAfter}
+use Rattle.meaning.specs.Runs.{Accepted, endingOf, waitsFor, imageAfter}
 use Rattle.meaning.specs.Theorems.Shows.{Meets, RisesFrom, ShowsRows, Shows}
 use Rattle.meaning.proofs.Lists.{clash, same-some}
 use Rattle.meaning.proofs.Lookups.{found-handle, makeAll-append, made-front, made-back}
@@ -247,7 +247,7 @@ module _ {image book log : List ℕ} (a : Accepted image book log) where
   pub at-consideration : (P : NetEffect → List Row → Type 0)
       → ((m : Image) (os : List RowOperation) → Sound m → Made m os → P (netEffect os) (makeAll os m .rows))
       → (c : Consideration (endingOf a)) → P (c .given) (imageAfter a (c .before) .rows)
-  unfolding imageAfter
+  unfolding imageAfter waitsFor
   at-consideration P so c =
       let j = c .number in
       let rest = considered j (c .given) ∷ c .after in
@@ -257,7 +257,7 @@ module _ {image book log : List ℕ} (a : Accepted image book log) where
   differs-since : (c : Consideration (endingOf a)) (past stretch : List Event) → c .before ≡ past ++ stretch
       → operationsIn stretch ≡ sinceLast (c .number) (c .before) → (h : ℕ)
       → Differs (effectAt h (c .given)) (rowAt h (imageAfter a past .rows)) (rowAt h (imageAfter a (c .before) .rows))
-  unfolding imageAfter
+  unfolding imageAfter waitsFor
   differs-since c past stretch q e h =
       let xs = operationsIn past in
       let ys = operationsIn stretch in
