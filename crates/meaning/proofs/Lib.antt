@@ -30,5 +30,10 @@ pub mod Marks
 pub mod Given
 pub mod Joined
 pub mod Quiet
+-- The rows that a query chooses
+pub mod Chooses
+-- When an operation or an action fails
+pub mod OnlyLog
+pub mod Reasons
 -- All statements
 pub mod Theorems

@@ -4,6 +4,8 @@ use mathlib.Core.List.{List, _∷_, _++_}
 use Prim.Native.Nat.{ℕ}
 use native.Mathlib.Omega.{arith}
 use Rattle.meaning.specs.Covers.{commit}
+use Rattle.meaning.specs.Covers.{Row}
+use Rattle.meaning.specs.Processing.TransitionTables.{Transition}
 use Rattle.meaning.specs.ByteLayouts.{imageBytes}
 use Rattle.meaning.specs.RowOperations.{inserts}
 use Rattle.meaning.specs.Processing.{made}
@@ -27,6 +29,8 @@ use Rattle.meaning.proofs.NetEffects as NetEffects
 use Rattle.meaning.proofs.Orders as Orders
 use Rattle.meaning.proofs.Cycles as Cycles
 use Rattle.meaning.proofs.JoinTable as JoinTable
+use Rattle.meaning.proofs.Chooses as Chooses
+use Rattle.meaning.proofs.Reasons as Reasons
 
 pub every-run : Stated.EveryRun
 every-run = Ends.every-run
@@ -102,6 +106,14 @@ module _ {image book log : List ℕ} (a : Accepted image book log) where
             (made-around a (before ++ (made (inserts r) ∷ between)) (made (inserts s) ∷ after) q));
       }
 
+  -- ---- Rows that are chosen, and reasons
+
+  pub rises : Stated.Chooses.Rises a
+  rises = Chooses.rises a
+
+  pub reasons : Stated.Reasons.Reasons a
+  reasons = Reasons.reasons a
+
 -- ---- 2. Round trip
 
 pub round-trip : Stated.RoundTrip
@@ -114,6 +126,11 @@ says-net = NetEffects.says-net
 
 pub conditions : Stated.Conditions
 conditions = Given.conditions
+
+-- ---- Queries
+
+pub chooses : (t : Transition) (rows : List Row) → Stated.Chooses.Chooses t rows
+chooses = Chooses.chooses
 
 -- ---- 7. Order
 

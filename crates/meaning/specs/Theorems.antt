@@ -23,6 +23,8 @@ use Rattle.meaning.specs.Runs.{Accepted, endingOf, Spoken}
 use Rattle.meaning.specs.EntryPoints.{RunResult, CheckResult, run, checkBook, ruleBytes, outcomeNumber, reasonNumber}
 use Rattle.meaning.specs.Trace.{operationsIn, considerationsIn, sinceLast, givenTo, joinedIn, Makes}
 use Rattle.meaning.specs.Trace.{masksOn, deletedIn, fromOutside, Differs}
+pub mod Chooses
+pub mod Reasons
 
 abbrev pub EveryRun : Type 0
 EveryRun = (image book log : List ℕ) → Spoken image book log
