@@ -38,5 +38,10 @@ pub mod Meets
 pub mod Shows
 pub mod Masked
 pub mod Admitted
+-- The rows that a query chooses (7)
+pub mod Chooses
+-- When an operation or an action fails (8)
+pub mod OnlyLog
+pub mod Reasons
 -- All statements
 pub mod Theorems

@@ -3,11 +3,11 @@ use mathlib.Core.Path.{_≡_, ap, _∙_}
 use mathlib.Core.List.{List, _∷_, _++_, append-assoc}
 use Prim.Native.Nat.{ℕ}
 use native.Mathlib.Omega.{arith}
-use Rattle.meaning.specs.Covers.{commit}
+use Rattle.meaning.specs.Covers.{Row, commit}
 use Rattle.meaning.specs.ByteLayouts.{imageBytes}
 use Rattle.meaning.specs.RowOperations.{inserts, ownOf}
 use Rattle.meaning.specs.Processing.{made}
-use Rattle.meaning.specs.Processing.TransitionTables.{transition}
+use Rattle.meaning.specs.Processing.TransitionTables.{Transition, transition}
 use Rattle.meaning.specs.EntryPoints.{handedBack, verdict, written}
 use Rattle.meaning.specs.Trace.{operationsIn}
 use Rattle.meaning.specs.Runs.{Accepted, endingOf, waitsFor, imageAfter}
@@ -33,6 +33,8 @@ use Rattle.meaning.proofs.NetEffects as NetEffects
 use Rattle.meaning.proofs.Orders as Orders
 use Rattle.meaning.proofs.Cycles as Cycles
 use Rattle.meaning.proofs.JoinTable as JoinTable
+use Rattle.meaning.proofs.Chooses as Chooses
+use Rattle.meaning.proofs.Reasons as Reasons
 
 -- ---- 1. Byte layouts
 
@@ -136,3 +138,17 @@ module _ {image book log : List ℕ} (a : Accepted image book log) where
         shows = λ c r q.
             at-consideration a (λ n rows. transition r rows (ownOf (r .table) n) ≡ transition r rows n) (λ m os. own-transition r os) c;
       }
+
+-- ---- 7. Queries
+
+pub chooses : (t : Transition) (rows : List Row) → Stated.Chooses.Chooses t rows
+chooses = Chooses.chooses
+
+module _ {image book log : List ℕ} (a : Accepted image book log) where
+  pub rises : Stated.Chooses.Rises a
+  rises = Chooses.rises a
+
+  -- ---- 8. Actions
+
+  pub reasons : Stated.Reasons.Reasons a
+  reasons = Reasons.reasons a

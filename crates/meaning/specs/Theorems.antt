@@ -27,6 +27,8 @@ pub mod Admitted
 pub mod Lawful
 pub mod Shows
 pub mod OwnTable
+pub mod Chooses
+pub mod Reasons
 
 -- ---- 1. Byte layouts
 
