@@ -3,7 +3,7 @@ use mathlib.Core.Path.{_≡_, refl, sym, ap, subst}
 use mathlib.Core.Logic.{_↔_, _⊎_, inl, inr}
 use mathlib.Core.Bool.{Bool, true, false, _&&_, not}
 use mathlib.Core.List.{List, [], _∷_}
-use Prim.Native.Nat.{ℕ}
+use Prim.Native.Nat.{ℕ, suc, _≤_}
 use native.Mathlib.Omega.{arith}
 use lib.IntN.{ℤ, pos, negsuc}
 use lib.Dec.{T, eqb, leb}
@@ -14,16 +14,16 @@ use Rattle.meaning.specs.Base.{Each, noElement, anElement, Picks, noMore
 use Rattle.meaning.specs.Values.{agree, compare}
 use Rattle.meaning.specs.Covers.{Row, Comparison, Source, Pair, Term}
 use Rattle.meaning.specs.Covers.{equal, unequal, less, atMost, greater, atLeast, constant, columns, match, noMatch}
-use Rattle.meaning.specs.Processing.TransitionTables.{Transition}
+use Rattle.meaning.specs.Covers.{current, inserted, deleted, newUpdated, oldUpdated}
+use Rattle.meaning.specs.Processing.TransitionTables.{Transition, transition}
 use Rattle.meaning.specs.Processing.Queries.{cell, agreeOn, sourceRows, holds, allHold, chosen}
-use Rattle.meaning.specs.Trace.{Point}
-use Rattle.meaning.specs.Made.{Sound}
-use Rattle.meaning.specs.Runs.{Accepted, endingOf, imageAfter}
+use Rattle.meaning.specs.Made.{Rising, noRow, above}
+use Rattle.meaning.specs.Runs.{Accepted, imageAfter}
+use Rattle.meaning.specs.Theorems.Shows.{RisesFrom}
 use Rattle.meaning.specs.Theorems.Chooses.{Compares, AgreeOn, Matched, Says, Chooses, Rises}
 use Rattle.meaning.proofs.Lists.{true-is-false, and-true, or-cases, or-left, or-right}
-use Rattle.meaning.proofs.Images.{makeAll-sound}
-use Rattle.meaning.proofs.ActionsFit.{chosen-taken}
-use Rattle.meaning.proofs.RunsFit.{run-sound, made-at}
+use Rattle.meaning.proofs.Shows.{shows}
+use Rattle.meaning.proofs.Admitted.{admitted}
 
 -- ---- Tests, and what they say
 
@@ -140,12 +140,39 @@ module _ (t : Transition) (rows : List Row) where
         ofOld = refl;
       }
 
--- ---- At every point of a run
+-- ---- By rising handle
 
-module _ {image book log : List ℕ} (a : Accepted image book log) where
-  pub sound-at : (p : Point (endingOf a)) → Sound (imageAfter a (p .before))
-  unfolding imageAfter
-  sound-at p = makeAll-sound (run-sound a) (made-at a (p .before) (p .after) (p .place))
+rises-lower : {low from : ℕ} (xs : List Row) → low ≤ from → RisesFrom from xs → RisesFrom low xs
+rises-lower [] l r = tt
+rises-lower (x ∷ xs) l r = (omega (arith, r .0), r .1)
 
-  pub rises : Rises a
-  rises p t n ts = chosen-taken t (imageAfter a (p .before)) n ts (sound-at p)
+select-rises : (low : ℕ) (p : Row → Bool) (xs : List Row) → RisesFrom low xs → RisesFrom low (select p xs)
+select-rises low p [] r = tt
+select-rises low p (x ∷ xs) r = go (p x) (select-rises (suc (x .handle)) p xs (r .1))
+  where
+    go : (b : Bool) → RisesFrom (suc (x .handle)) (select p xs) → RisesFrom low (if b then x ∷ select p xs else select p xs)
+    go true ih = (r .0, ih)
+    go false ih = rises-lower (select p xs) (omega (arith, r .0)) ih
+
+rising-rises : {high low : ℕ} {rows : List Row} → Rising high low rows → RisesFrom (suc low) rows
+rising-rises noRow = tt
+rising-rises (above l h p rest) = (l, rising-rises rest)
+
+source-rises : (t : Transition) (rows : List Row) → RisesFrom 0 rows
+    → Each (RisesFrom 0) (t .insertedRows ∷ t .deletedRows ∷ t .newUpdated ∷ t .oldUpdated ∷ []) → (s : Source)
+    → RisesFrom 0 (sourceRows t rows s)
+unfolding sourceRows
+source-rises t rows r tables (current n) = select-rises 0 (λ x. eqb (x .table) n) rows r
+source-rises t rows r (anElement i (anElement d (anElement n (anElement o none)))) inserted = i
+source-rises t rows r (anElement i (anElement d (anElement n (anElement o none)))) deleted = d
+source-rises t rows r (anElement i (anElement d (anElement n (anElement o none)))) newUpdated = n
+source-rises t rows r (anElement i (anElement d (anElement n (anElement o none)))) oldUpdated = o
+
+pub rises : {image book log : List ℕ} (a : Accepted image book log) → Rises a
+unfolding chosen
+rises a c r e p q =
+    let rows = imageAfter a (p .before) .rows in
+    let t = transition r (imageAfter a (c .before) .rows) (c .given) in
+    select-rises 0 (allHold t rows (q .terms)) (sourceRows t rows (q .source))
+    (source-rises t rows (rises-lower rows (omega arith) (rising-rises (admitted a .sound p .rises))) (shows a .rows c r e .rise)
+    (q .source))

@@ -26,7 +26,7 @@ use Rattle.meaning.specs.Runs.{Accepted, imageAfter}
 use Rattle.meaning.specs.Theorems.Reasons.{Leaves32, SumLeaves, Stops, SomeStops, NoRow, TooMany, UsedUp, Due}
 use Rattle.meaning.specs.Theorems.Reasons.{DueInLog, DueInAction, FailsWhen, Reasons}
 use Rattle.meaning.proofs.Lists.{clash}
-use Rattle.meaning.proofs.Chooses.{sound-at}
+use Rattle.meaning.proofs.Admitted.{admitted}
 use Rattle.meaning.proofs.OnlyLog.{if-so, maybe-so, only-log}
 use Rattle.meaning.proofs.Lookups.{Look, head, later as further, look, found-handle, found-so}
 
@@ -219,7 +219,7 @@ module _ (m : Image) (sound : Sound m) where
 pub reasons : {image book log : List ℕ} (a : Accepted image book log) → Reasons a
 reasons a =
     record {
-      ofLog = λ p q. way-fails (log-way (imageAfter a (p .before)) (sound-at a p) q);
-      ofActions = λ p t act. way-fails (action-way (imageAfter a (p .before)) (sound-at a p) t act);
+      ofLog = λ p q. way-fails (log-way (imageAfter a (p .before)) (admitted a .sound p) q);
+      ofActions = λ p t act. way-fails (action-way (imageAfter a (p .before)) (admitted a .sound p) t act);
       onlyLog = only-log a;
     }

@@ -3,19 +3,19 @@ use mathlib.Core.Path.{_≡_}
 use mathlib.Core.Logic.{_↔_, _≢_}
 use mathlib.Core.Bool.{true}
 use mathlib.Core.List.{List}
+use mathlib.Core.Option.{some}
 use Prim.Native.Nat.{ℕ}
 use lib.IntN.{ℤ}
 use lib.Signed.{_≤ℤ_, _<ℤ_}
 use Rattle.meaning.specs.Base.{_∈_, Each, Picks}
-use Rattle.meaning.specs.Covers.{Row, Comparison, Source, Pair, Term, Query}
+use Rattle.meaning.specs.Covers.{Row, Rule, Comparison, Source, Pair, Term, Query}
 use Rattle.meaning.specs.Covers.{equal, unequal, less, atMost, greater, atLeast, current, inserted, deleted, newUpdated, oldUpdated}
 use Rattle.meaning.specs.Covers.{constant, columns, match, noMatch}
-use Rattle.meaning.specs.Processing.TransitionTables.{Transition}
+use Rattle.meaning.specs.Processing.TransitionTables.{Transition, transition}
 use Rattle.meaning.specs.Processing.Queries.{cell, sourceRows, holds, chosen}
-use Rattle.meaning.specs.Processing.Actions.{rowsOf}
-use Rattle.meaning.specs.Trace.{Point}
-use Rattle.meaning.specs.Made.{Taken}
-use Rattle.meaning.specs.Runs.{Accepted, endingOf, imageAfter}
+use Rattle.meaning.specs.Trace.{Point, Consideration}
+use Rattle.meaning.specs.Runs.{Accepted, endingOf, rule, imageAfter}
+use Rattle.meaning.specs.Theorems.Shows.{RisesFrom}
 
 -- =, ≠, <, ≤, >, ≥
 abbrev pub Compares : Comparison → ℤ → ℤ → Type 0
@@ -55,7 +55,8 @@ module _ (t : Transition) (rows : List Row) where
     pub ofNew : sourceRows t rows newUpdated ≡ t .newUpdated
     pub ofOld : sourceRows t rows oldUpdated ≡ t .oldUpdated
 
--- "Rows are taken by rising handle": at every point of a run the rows chosen of a table are live rows, rising, so each once
+-- "Rows are taken by rising handle": whatever the source, what is chosen rises, so each once, by the transition tables of a consideration
+-- and the rows that are live at any point of the run
 abbrev pub Rises : {image book log : List ℕ} → Accepted image book log → Type 0
-Rises a = (p : Point (endingOf a)) (t : Transition) (n : ℕ) (ts : List Term)
-    → let rows = imageAfter a (p .before) .rows in Taken rows 0 (chosen t rows (rowsOf n ts))
+Rises a = (c : Consideration (endingOf a)) (r : Rule) → rule a (c .number) ≡ some r → (p : Point (endingOf a)) (q : Query)
+    → RisesFrom 0 (chosen (transition r (imageAfter a (c .before) .rows) (c .given)) (imageAfter a (p .before) .rows) q)
