@@ -86,7 +86,7 @@ run-count a = runs-count (a .ruleBook .rules) (a .order) (run-steps a)
 
 -- ---- The outcome
 
-known-outcome : (o : Outcome) → outcomeNumber o ≤ 3
+pub known-outcome : (o : Outcome) → outcomeNumber o ≤ 3
 unfolding outcomeNumber
 known-outcome commit = omega arith
 known-outcome rolledBack = omega arith

@@ -30,5 +30,11 @@ pub mod Marks
 pub mod Given
 pub mod Joined
 pub mod Quiet
+-- What is refused, and how long what is accepted can be
+pub mod Refusals
+pub mod Takes
+pub mod RuleBytes
+pub mod Printed
+pub mod Lengths
 -- All statements
 pub mod Theorems

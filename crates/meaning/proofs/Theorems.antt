@@ -25,7 +25,10 @@ use Rattle.meaning.proofs.Quiet as Quiet
 use Rattle.meaning.proofs.RoundTrip as RoundTrip
 use Rattle.meaning.proofs.NetEffects as NetEffects
 use Rattle.meaning.proofs.Orders as Orders
-use Rattle.meaning.proofs.Cycles as Cycles
+use Rattle.meaning.proofs.Refusals.{run-refuses, check-refuses}
+use Rattle.meaning.proofs.RuleBytes.{rule-empty}
+use Rattle.meaning.proofs.Printed.{program-refuses, parts-refuse}
+use Rattle.meaning.proofs.Lengths as Lengths
 use Rattle.meaning.proofs.JoinTable as JoinTable
 
 pub every-run : Stated.EveryRun
@@ -120,8 +123,16 @@ conditions = Given.conditions
 pub total-order : Stated.TotalOrder
 total-order = Orders.total-order
 
-pub cycles : Stated.Cycles
-cycles = Cycles.cycles
+-- ---- Refusals
+
+pub refusals : Stated.Refusals.Refusals
+refusals =
+    record { ofRun = run-refuses; ofCheck = check-refuses; ofRule = rule-empty; ofProgram = program-refuses; ofParts = parts-refuse }
+
+-- ---- Lengths
+
+pub lengths : Stated.Lengths.Lengths
+lengths = Lengths.lengths
 
 -- ---- 8. The join table
 

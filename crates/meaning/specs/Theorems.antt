@@ -9,7 +9,7 @@ use lib.Dec.{eqb, ltb}
 use lib.ListN.{length, getElem?}
 use Rattle.meaning.specs.Base.{if_then_else_, any, all}
 use Rattle.meaning.specs.Reading.{readAll}
-use Rattle.meaning.specs.Covers.{mostRows, Row, Image, Book, Rule, Query, LogOperation, commit, stepLimit}
+use Rattle.meaning.specs.Covers.{mostRows, Row, Image, Rule, Query, LogOperation, commit, stepLimit}
 use Rattle.meaning.specs.ByteLayouts
 use Rattle.meaning.specs.ByteLayouts.{imageBytes, rising}
 use Rattle.meaning.specs.RowOperations.{Effect, RowOperation, NetEffect, inserts, nothing, kind, unreachable, joinKind, join, single, net, netEffect, effectAt, rowAt, makeAll}
@@ -18,11 +18,13 @@ use Rattle.meaning.specs.Processing.TransitionTables.{wakes, transition}
 use Rattle.meaning.specs.Processing.Queries.{chosen}
 use Rattle.meaning.specs.Processing.Actions.{went}
 use Rattle.meaning.specs.Processing.TotalOrder.{precedesRule, totalOrder}
-use Rattle.meaning.specs.EntryPoints.{verdict, JudgedBook, refusedBook, judgeBook, precedesCycle, written}
+use Rattle.meaning.specs.EntryPoints.{verdict, written}
 use Rattle.meaning.specs.Runs.{Accepted, endingOf, Spoken}
 use Rattle.meaning.specs.EntryPoints.{RunResult, CheckResult, run, checkBook, ruleBytes, outcomeNumber, reasonNumber}
 use Rattle.meaning.specs.Trace.{operationsIn, considerationsIn, sinceLast, givenTo, joinedIn, Makes}
 use Rattle.meaning.specs.Trace.{masksOn, deletedIn, fromOutside, Differs}
+pub mod Refusals
+pub mod Lengths
 
 abbrev pub EveryRun : Type 0
 EveryRun = (image book log : List ℕ) → Spoken image book log
@@ -172,13 +174,6 @@ pub record Ordered (rules : List Rule) (order : List ℕ) : Type 0 where
 
 abbrev pub TotalOrder : Type 0
 TotalOrder = (rules : List Rule) (order : List ℕ) → totalOrder rules ≡ some order → Ordered rules order
-
--- refusal 5 exactly when precedes has a cycle, inactive rules included
-pub record Cycles : Type 0 where
-  pub found : (book : List ℕ) → judgeBook book ≡ refusedBook precedesCycle
-      → (b : Book) × (readAll ByteLayouts.book book ≡ some b) × ((k : ℕ) × Leads (precedesOf (b .rules)) k k)
-  pub refuses : (book : List ℕ) (b : Book) → readAll ByteLayouts.book book ≡ some b → (k : ℕ) → Leads (precedesOf (b .rules)) k k
-      → judgeBook book ≡ refusedBook precedesCycle
 
 -- ---- 8. The join table
 
