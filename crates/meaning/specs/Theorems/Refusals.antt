@@ -32,16 +32,18 @@ NoRule book k = (b : Book) × (readAll ByteLayouts.book book ≡ some b) × (len
 abbrev pub FirstOf : (Refusal → Type 0) → Refusal → Type 0
 FirstOf applies n = applies n × ((r : Refusal) → refusalNumber r < refusalNumber n → ¬ applies r)
 
--- by the refusals that apply to the call, the refusal in its answer, if there is one, and what is so of a refused call
+-- by the refusals that apply to the call, the refusal in its answer, if there is one, and what stays as it was
 pub record Refuses (applies : Refusal → Type 0) (answer : Option Refusal) (Stays : Type 0) : Type 0 where
   -- refusal n is given exactly when n applies and none before it does
   pub given : (n : Refusal) → (answer ≡ some n) ↔ FirstOf applies n
   -- and none is given exactly when none applies
   pub accepted : (answer ≡ none) ↔ ((n : Refusal) → ¬ applies n)
+  -- what stays where one is given
   pub stays : (n : Refusal) → answer ≡ some n → Stays
 
 -- ---- A run
 
+-- the refusal in an answer
 abbrev pub refusalIn : Answer → Option Refusal
 refusalIn (refusedWith n) = some n
 refusalIn (ran o count) = none
@@ -93,6 +95,6 @@ pub record Refusals : Type 0 where
   pub ofRule : (book : List ℕ) (k : ℕ) → (ruleBytes book k ≡ []) ↔ (Malformed ByteLayouts.book book ⊎ (HasCycle book ⊎ NoRule book k))
   -- the program gives refusal 7, before all others, exactly when its input passes 16,384 bytes
   pub ofProgram : (input : List ℕ) → (printed input ≡ refusalLine inputTooLong) ↔ (mostInput < length input)
-  -- and the refusal that the parts of any other input meet
+  -- and of any other input the refusal of image, book and log as they are cut from it
   pub ofParts : (input : List ℕ) → length input ≤ mostInput
       → (n : Refusal) → (printed input ≡ refusalLine n) ↔ (verdictOn input ≡ refused n)
