@@ -1,4 +1,4 @@
--- A book is refused for its order exactly when a rule leads to itself: where no rule is ready, each rule not taken has a predecessor not
+-- There is no total order exactly when a rule leads to itself: where no rule is ready, each rule not taken has a predecessor not
 -- taken, and the way back along these meets some rule again, as rules are few. In an order, what leads to a rule stands before it.
 use mathlib.Core.Path.{_≡_, refl}
 use mathlib.Core.Bool.{Bool, true, false}
@@ -10,13 +10,9 @@ use native.Mathlib.Omega.{arith}
 use lib.Dec.{eqb}
 use lib.ListN.{length}
 use borrow.Author.Tests.{eqb-true}
-use Rattle.meaning.specs.Base.{maybe, firstWith}
-use Rattle.meaning.specs.Reading.{readAll}
-use Rattle.meaning.specs.Covers.{Book}
-use Rattle.meaning.specs.ByteLayouts
-use Rattle.meaning.specs.Processing.TotalOrder.{numbers, precedesRule, ready, orderOf, totalOrder}
-use Rattle.meaning.specs.EntryPoints.{refusedBook, acceptedBook, judgeBook, bookMalformed, precedesCycle}
-use Rattle.meaning.specs.Theorems.{Leads, straight, through, precedesOf, Cycles}
+use Rattle.meaning.specs.Base.{firstWith}
+use Rattle.meaning.specs.Processing.TotalOrder.{numbers, precedesRule, ready, orderOf}
+use Rattle.meaning.specs.Theorems.{Leads, straight, through}
 use Rattle.meaning.proofs.Lists.{true-is-false, or-cases, any-front, first-none, has, eqb-self, has-split, has-none, Distinct}
 use Rattle.meaning.proofs.Lists.{noNumber, another, at-most, one-missing}
 use Rattle.meaning.proofs.Orders.{is-rule, number-has, blocked, InTurn, turn-new, turn-after, Taking, stuck, order-taking}
@@ -121,29 +117,3 @@ module _ (precedes : List ℕ) where
           let t = order-in-turn precedes order h in
           let s = has-split k order (order-all precedes order h k (leads-rule c)) in
           true-is-false (leads-before t c (s .before) (s .after) (s .split)) (turn-new precedes t (s .before) (s .after) k (s .split))
-
--- ---- The book
-
-cycle-found : (book : List ℕ) → judgeBook book ≡ refusedBook precedesCycle
-    → (b : Book) × (readAll ByteLayouts.book book ≡ some b) × ((k : ℕ) × Leads (precedesOf (b .rules)) k k)
-unfolding judgeBook totalOrder
-cycle-found book h = go (readAll ByteLayouts.book book) refl
-  where
-    unordered : (b : Book) (o : Option (List ℕ)) → maybe o (refusedBook precedesCycle) (acceptedBook b) ≡ refusedBook precedesCycle
-        → o ≡ none
-    unordered b none e = refl
-    unordered b (some order) e = absurd (let z : _≡_ {A = ℕ} 0 1 = cc in omega arith)
-
-    go : (o : Option Book) → readAll ByteLayouts.book book ≡ o → (b : Book) × (o ≡ some b) × ((k : ℕ) × Leads (precedesOf (b .rules)) k k)
-    go none e =
-        let q : refusedBook bookMalformed ≡ refusedBook precedesCycle = rw e at h in
-        absurd (let z : _≡_ {A = ℕ} 0 1 = cc in omega arith)
-    go (some b) e = (b, refl, none-cycle (precedesOf (b .rules)) (unordered b (totalOrder (b .rules)) (rw e at h)))
-
-cycle-refuses : (book : List ℕ) (b : Book) → readAll ByteLayouts.book book ≡ some b → (k : ℕ) → Leads (precedesOf (b .rules)) k k
-    → judgeBook book ≡ refusedBook precedesCycle
-unfolding judgeBook totalOrder
-cycle-refuses book b h k c = rw (h, cycle-none (precedesOf (b .rules)) k c)
-
-pub cycles : Cycles
-cycles = record { found = cycle-found; refuses = cycle-refuses }

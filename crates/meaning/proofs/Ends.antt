@@ -52,7 +52,7 @@ every-run image book log = onImage (readAll ByteLayouts.image image) refl
 
 -- ---- The outcome
 
-known-outcome : (o : Outcome) → outcomeNumber o ≤ 3
+pub known-outcome : (o : Outcome) → outcomeNumber o ≤ 3
 unfolding outcomeNumber
 known-outcome commit = omega arith
 known-outcome rolledBack = omega arith

@@ -43,5 +43,11 @@ pub mod Chooses
 -- When an operation or an action fails (8)
 pub mod OnlyLog
 pub mod Reasons
+-- What is refused, and how long what is accepted can be (1, 2)
+pub mod Refusals
+pub mod Takes
+pub mod RuleBytes
+pub mod Printed
+pub mod Lengths
 -- All statements
 pub mod Theorems

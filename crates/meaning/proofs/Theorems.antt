@@ -31,7 +31,10 @@ use Rattle.meaning.proofs.Conditions as Conditions
 use Rattle.meaning.proofs.RoundTrip as RoundTrip
 use Rattle.meaning.proofs.NetEffects as NetEffects
 use Rattle.meaning.proofs.Orders as Orders
-use Rattle.meaning.proofs.Cycles as Cycles
+use Rattle.meaning.proofs.Refusals.{run-refuses, check-refuses}
+use Rattle.meaning.proofs.RuleBytes.{rule-empty}
+use Rattle.meaning.proofs.Printed.{program-refuses, parts-refuse}
+use Rattle.meaning.proofs.Lengths as Lengths
 use Rattle.meaning.proofs.JoinTable as JoinTable
 use Rattle.meaning.proofs.Chooses as Chooses
 use Rattle.meaning.proofs.Reasons as Reasons
@@ -41,10 +44,19 @@ use Rattle.meaning.proofs.Reasons as Reasons
 pub round-trip : Stated.RoundTrip
 round-trip = RoundTrip.round-trip
 
+pub lengths : Stated.Lengths.Lengths
+lengths = Lengths.lengths
+
 -- ---- 2. Entry points
 
 pub every-run : Stated.EveryRun
 every-run = Ends.every-run
+
+pub refusals : Stated.Refusals.Refusals
+refusals =
+    record { ofRun = run-refuses; ofCheck = check-refuses; ofRule = rule-empty; ofProgram = program-refuses; ofParts = parts-refuse }
+
+-- ---- Lengths
 
 module _ {image book log : List ℕ} (a : Accepted image book log) where
   pub ends : Stated.Ends a
@@ -122,8 +134,7 @@ conditions = Conditions.conditions
 pub total-order : Stated.TotalOrder
 total-order = Orders.total-order
 
-pub cycles : Stated.Cycles
-cycles = Cycles.cycles
+-- ---- Refusals
 
 -- ---- 6. Transition tables
 

@@ -9,10 +9,10 @@ use lib.Dec.{eqb, ltb}
 use lib.ListN.{length}
 use Rattle.meaning.specs.Base.{if_then_else_, any, all}
 use Rattle.meaning.specs.Reading.{readAll}
-use Rattle.meaning.specs.Covers.{mostRows, Row, Image, Book, Rule, Query, commit}
+use Rattle.meaning.specs.Covers.{mostRows, Row, Image, Rule, Query, commit}
 use Rattle.meaning.specs.ByteLayouts
 use Rattle.meaning.specs.ByteLayouts.{imageBytes}
-use Rattle.meaning.specs.EntryPoints.{verdict, refusedBook, judgeBook, precedesCycle, outcomeNumber, reasonNumber, written}
+use Rattle.meaning.specs.EntryPoints.{verdict, outcomeNumber, reasonNumber, written}
 use Rattle.meaning.specs.RowOperations.{Effect, RowOperation, NetEffect, inserts, nothing, kind, unreachable, joinKind, join, single}
 use Rattle.meaning.specs.RowOperations.{net, netEffect, effectAt, rowAt}
 use Rattle.meaning.specs.Processing.{Event, made, runActions, considerRule}
@@ -23,6 +23,8 @@ use Rattle.meaning.specs.Processing.Actions.{went}
 use Rattle.meaning.specs.Trace.{operationsIn, sinceLast, givenTo, joinedIn, Point, Making, masksOn, deletedIn, fromOutside, Differs}
 use Rattle.meaning.specs.Runs.{Accepted, endingOf, Spoken, waitsFor, imageAfter}
 -- Topics with a file of their own, by section: 1 Lengths, 2 Refusals, 3 Admitted, 4 Lawful, 6 Shows and OwnTable, 7 Chooses, 8 Reasons
+pub mod Lengths
+pub mod Refusals
 pub mod Admitted
 pub mod Lawful
 pub mod Shows
@@ -162,13 +164,6 @@ pub record Ordered (rules : List Rule) (order : List ℕ) : Type 0 where
 
 abbrev pub TotalOrder : Type 0
 TotalOrder = (rules : List Rule) (order : List ℕ) → totalOrder rules ≡ some order → Ordered rules order
-
--- refusal 5 exactly when precedes has a cycle, inactive rules included
-pub record Cycles : Type 0 where
-  pub found : (book : List ℕ) → judgeBook book ≡ refusedBook precedesCycle
-      → (b : Book) × (readAll ByteLayouts.book book ≡ some b) × ((k : ℕ) × Leads (precedesOf (b .rules)) k k)
-  pub refuses : (book : List ℕ) (b : Book) → readAll ByteLayouts.book book ≡ some b → (k : ℕ) → Leads (precedesOf (b .rules)) k k
-      → judgeBook book ≡ refusedBook precedesCycle
 
 -- ---- 6. Transition tables
 
