@@ -56,8 +56,6 @@ pub refusals : Stated.Refusals.Refusals
 refusals =
     record { ofRun = run-refuses; ofCheck = check-refuses; ofRule = rule-empty; ofProgram = program-refuses; ofParts = parts-refuse }
 
--- ---- Lengths
-
 module _ {image book log : List ℕ} (a : Accepted image book log) where
   pub ends : Stated.Ends a
   ends = Ends.every-ends a
@@ -133,8 +131,6 @@ conditions = Conditions.conditions
 
 pub total-order : Stated.TotalOrder
 total-order = Orders.total-order
-
--- ---- Refusals
 
 -- ---- 6. Transition tables
 
