@@ -4,3 +4,4 @@ pub mod Ordered
 pub mod Running
 pub mod Counted
 pub mod Sizes
+pub mod Determined

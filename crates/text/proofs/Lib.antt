@@ -2,3 +2,5 @@
 mod Parts
 -- What is told of a run, and printed
 mod Told
+-- The contract leaves no choice
+mod Determined

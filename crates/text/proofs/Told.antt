@@ -16,9 +16,9 @@ use Rattle.meaning.specs.Covers as Covers
 use Rattle.meaning.specs.ByteLayouts as ByteLayouts
 use Rattle.meaning.specs.ByteLayouts.{imageBytes}
 use Rattle.meaning.specs.Processing.{Ending}
-use Rattle.meaning.specs.EntryPoints.{Verdict, refused, accepted, refusedWith, ran, handedBack, verdict, answerOf, written, lines, runLines}
+use Rattle.meaning.specs.EntryPoints.{Verdict, refused, accepted, refusedWith, ran, handedBack, verdict, answerOf, lines, runLines}
 use Rattle.meaning.specs.EntryPoints.{refusalLine, line, decimal, rowLines, refusalNumber, outcomeNumber, failureNumber, reasonNumber}
-use Rattle.meaning.specs.EntryPoints.{run, resultOf, runOutput, workingRoom, mostInput, firstPart, verdictOn, printed}
+use Rattle.meaning.specs.EntryPoints.{run, resultOf, written, cleared, runOutput, workingRoom, mostInput, firstPart, verdictOn, printed}
 use Rattle.meaning.specs.Runs.{Accepted, endingOf, isRefused, isAccepted}
 use Rattle.meaning.proofs.WrittenRead.{written-read}
 use Rattle.meaning.proofs.RunsFit.{run-sound, run-end-sound, run-limit}
@@ -35,12 +35,13 @@ use Rattle.engine.specs.declared.Refusal.the-variants as refusal
 use Rattle.engine.specs.Answers.{refusalMeant, answerMeant, Runs}
 use Rattle.lines.specs.Text.{Puts, PutsRun}
 use Rattle.text.specs.Tells.{Showable, Tells, Telling, PutsLines}
+use Rattle.text.specs.Texts.{Texts, runOn}
 use Rattle.text.proofs.Parts.{part-image}
 
 -- ---- Every verdict can be shown
 
 handed-read : {image book log : List ℕ} (a : Accepted image book log) (o : Covers.Outcome)
-    → readAll ByteLayouts.image (imageBytes (handedBack o (a .start) (endingOf a .image))) ≡ some (handedBack o (a .start) (endingOf a .image))
+    → let m = handedBack o (a .start) (endingOf a .image) in readAll ByteLayouts.image (imageBytes m) ≡ some m
 unfolding handedBack
 handed-read a commit = written-read (run-end-sound a)
 handed-read a rolledBack = written-read (run-sound a)
@@ -81,8 +82,8 @@ front-read {start = start} {e = e} t =
 -- ---- Lines
 
 module _ {image : List ℕ} {before after : List ℕ} {n : ℕ} where
-  pub refused-lines : (r : Refusal) {m : ℕ} → m ≡ refusalNumber (refusalMeant r) → Puts before after (line (ascii "refused") (decimal m ∷ [])) n
-      → PutsLines before after image (Refused r) n
+  pub refused-lines : (r : Refusal) {m : ℕ} → m ≡ refusalNumber (refusalMeant r)
+      → Puts before after (line (ascii "refused") (decimal m ∷ [])) n → PutsLines before after image (Refused r) n
   unfolding answerMeant answerOf lines refusalLine
   refused-lines r {m} e p = record { is = λ v t. go v (t .answer) }
     where
@@ -171,26 +172,39 @@ from-on s {at} {k} e = take-all (length s - at) (drop at s) (omega (arith, lengt
 abbrev pub left : List ℕ → ℕ → List ℕ
 left input a = take (length input - a) (drop a input)
 
--- the run of what was cut off tells the verdict on the input
-pub cut-tells : (input : List ℕ) {a b : ℕ} → a ≡ firstPart input → b ≡ firstPart (left input a) → {before after xs ys : List ℕ} {r : Answer}
-    → runOutput ≤ length before → workingRoom ≤ length xs
-    → Runs (take (a - 0) input) (take (b - 0) (left input a)) (left (left input a) b) before after xs ys r → Tells after r (verdictOn input)
-unfolding verdictOn
-cut-tells input {a} {b} first second {before} {after} {xs} {ys} o w runs =
-    let rest : left input a ≡ drop (firstPart input) input = from-on input first in
-    let book : take (b - 0) (left input a) ≡ take (firstPart (left input a)) (left input a) = up-to (left input a) second in
-    let log : left (left input a) b ≡ drop (firstPart (left input a)) (left input a) = from-on (left input a) second in
-    let tells = run-tells (take (a - 0) input) (take (b - 0) (left input a)) (left (left input a) b) before after xs ys o w runs in
-    let same : verdict (take (a - 0) input) (take (b - 0) (left input a)) (left (left input a) b) ≡ verdictOn input =
-    rw (up-to input first, book, log, rest) in
-    rw same at tells
+module _ (input : List ℕ) {a b : ℕ} (first : a ≡ firstPart input) (second : b ≡ firstPart (left input a)) {before after xs ys : List ℕ}
+    {r : Answer} (runs : Runs (take (a - 0) input) (take (b - 0) (left input a)) (left (left input a) b) before after xs ys r) where
+  -- the parts are cut as the specification cuts them
+  cut-runs : let more = drop (firstPart input) input in
+      Runs (take (firstPart input) input) (take (firstPart more) more) (drop (firstPart more) more) before after xs ys r
+  cut-runs =
+      let more = left input a in
+      let rest : more ≡ drop (firstPart input) input = from-on input first in
+      let book : take (b - 0) more ≡ take (firstPart more) more = up-to more second in
+      let log : left more b ≡ drop (firstPart more) more = from-on more second in
+      rw (up-to input first, book, log, rest) at runs
 
-pub printed-lines : (input : List ℕ) {before after : List ℕ} {n : ℕ} → length input ≤ mostInput → Puts before after (lines (verdictOn input)) n
-    → Puts before after (printed input) n
-unfolding printed
-printed-lines input h p = rw (le-ltb mostInput (length input) h) p
+  -- the run tells the verdict on the input
+  pub cut-tells : runOutput ≤ length before → workingRoom ≤ length xs → Tells after r (verdictOn input)
+  unfolding verdictOn
+  cut-tells o w = run-tells _ _ _ before after xs ys o w cut-runs
 
-pub printed-too-long : (input : List ℕ) {before after : List ℕ} {n : ℕ} → mostInput < length input
-    → Puts before after (line (ascii "refused") (decimal 7 ∷ [])) n → Puts before after (printed input) n
-unfolding printed refusalLine refusalNumber
-printed-too-long input h p = rw (lt-ltb mostInput (length input) h) p
+  -- and leaves what the run of the input leaves
+  pub cut-texts : length input ≤ mostInput → {out out′ : List ℕ} {n : ℕ} → Puts out out′ (lines (verdictOn input)) n
+      → Texts input before after xs ys out out′ n
+  unfolding printed runOn
+  cut-texts h p = record {
+    puts = rw (le-ltb mostInput (length input) h) p;
+    imageLeft = rw (le-ltb mostInput (length input) h, cut-runs .result);
+    roomLeft = rw (le-ltb mostInput (length input) h, cut-runs .result);
+  }
+
+-- an input that is too long is refused, and nothing is run
+pub too-long-texts : (input : List ℕ) {image room out out′ : List ℕ} {n : ℕ} → mostInput < length input
+    → Puts out out′ (line (ascii "refused") (decimal 7 ∷ [])) n → Texts input image image room room out out′ n
+unfolding printed refusalLine refusalNumber runOn resultOf written cleared
+too-long-texts input h p = record {
+  puts = rw (lt-ltb mostInput (length input) h) p;
+  imageLeft = rw (lt-ltb mostInput (length input) h);
+  roomLeft = rw (lt-ltb mostInput (length input) h);
+}

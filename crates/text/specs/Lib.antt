@@ -1,1 +1,3 @@
 pub mod Tells
+pub mod Texts
+pub mod Determined

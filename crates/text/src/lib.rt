@@ -2,10 +2,10 @@
 ghost use mathlib.Core.Path.{_≡_};
 ghost use Prim.Native.Nat.{_+_, _≤_, _<_};
 ghost use lib.ListN.{length};
-ghost use Rattle.meaning.specs.EntryPoints.{firstPart, printed};
-ghost use Rattle.lines.specs.Text.{Puts};
+ghost use Rattle.meaning.specs.EntryPoints.{firstPart};
 ghost use Rattle.engine.specs.declared.Answer.the-variants.{Ran};
 ghost use Rattle.text.specs.Tells.{Telling, PutsLines};
+ghost use Rattle.text.specs.Texts.{Texts};
 use engine::Answer;
 use image::ImageRead;
 use processing::Outcome;
@@ -65,13 +65,14 @@ fn put_answer(out: &mut [u8], answer: Answer, image: &[u8]) -> usize
     }
 }
 
-// What is printed for an input, at the front of the output, and how long it is. The image of a run and its
-// working room are lent.
+// What is printed for an input, at the front of the output, and how long it is. A run's output and its working
+// room are lent: they are what the run leaves, or as they were where the input is too long.
 pub fn text(input: &[u8], image: &mut [u8], room: &mut [u8], out: &mut [u8]) -> usize
     requires { ⌜ 1355 ≤ length (now image) ⌝ }
     requires { ⌜ 65536 ≤ length (now room) ⌝ }
     requires { ⌜ 16384 ≤ length (now out) ⌝ }
-    ensures { λ r. ⌜ Puts (now (out .entry)) (now (out .exit)) (printed (now (input .entry))) r ⌝ }
+    ensures { λ r. ⌜ Texts (now (input .entry)) (now (image .entry)) (now (image .exit)) (now (room .entry)) (now (room .exit))
+        (now (out .entry)) (now (out .exit)) r ⌝ }
 {
     if INPUT < input.len() {
         return lines::put_refused(out, TOO_LONG);

@@ -8,7 +8,7 @@ use Rattle.mordashun.proofs.main.Tie as tie
 slice-aggregate-write-all : tie.Need-slice-aggregate-write-all
 slice-aggregate-write-all c =
     let put = c .before .before .before .before .text in
-    omega (arith, length-take (put .result) (put .last .1 .1 .1 .0), put .ensures .kept, put .ensures .fits)
+    omega (arith, length-take (put .result) (put .last .1 .1 .1 .0), put .ensures .puts .kept, put .ensures .puts .fits)
 
 pub main-spec : {M : Type 1} → statement M
 main-spec =

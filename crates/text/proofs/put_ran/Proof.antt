@@ -39,7 +39,8 @@ returns c =
 
 same-length : tie.Need-same-length
 same-length c =
-    let telling = c .before .before .before .before .before .before .before .before .before .before .before .before .before .before .pre .1 in
+    let start = c .before .before .before .before .before .before .before .before .before .before .before .before .before .before in
+    let telling = start .pre .1 in
     returns c .is (telling .verdict) (telling .tells) .kept
 
 returns-2 : tie.Need-returns-2

@@ -4,7 +4,7 @@ use denote.Ref.{now}
 use native.Mathlib.Omega.{arith}
 use Rattle.meaning.specs.EntryPoints.{verdictOn}
 use Rattle.engine.proofs.Sizes.{output-kept, room-kept}
-use Rattle.text.proofs.Told.{cut-tells, printed-lines, printed-too-long}
+use Rattle.text.proofs.Told.{cut-tells, cut-texts, too-long-texts}
 use Rattle.text.proofs.text.Statement.{statement}
 use Rattle.text.proofs.text.Tie as tie
 
@@ -13,7 +13,7 @@ returns c =
     let made = c .before .before in
     let long = made .before .before in
     let start = long .before .before .before .before .before in
-    printed-too-long (now (start .args .input)) (omega (arith, long .if1 .taken)) (made .put-refused .ensures)
+    too-long-texts (now (start .args .input)) (omega (arith, long .if1 .taken)) (made .put-refused .ensures)
 
 same-length : tie.Need-same-length
 same-length c = c .before .before .put-refused .ensures .kept
@@ -42,11 +42,13 @@ put-answer-requires c κs =
     let second = ran .before .before .before .before .before .before in
     let first = second .before .before in
     let start = first .before .before .before .before .before .before in
-    let input = now (start .args .input) in (
+    let input = now (start .args .input) in
+    let cut = first .part-end .ensures .0 in
+    let more = second .part-end2 .ensures .0 in (
       start .pre .1 .1,
       record {
         verdict = verdictOn input;
-        tells = cut-tells input (first .part-end .ensures .0) (second .part-end2 .ensures .0) (start .pre .0) (start .pre .1 .0) (ran .run .ensures);
+        tells = cut-tells input cut more (ran .run .ensures) (start .pre .0) (start .pre .1 .0);
       },
     )
 
@@ -58,9 +60,10 @@ returns-2 c =
     let first = second .before .before in
     let start = first .before .before .before .before .before .before in
     let input = now (start .args .input) in
-    printed-lines input (omega (arith, first .before .if1 .left))
-    (made .put-answer .ensures .is (verdictOn input)
-    (cut-tells input (first .part-end .ensures .0) (second .part-end2 .ensures .0) (start .pre .0) (start .pre .1 .0) (ran .run .ensures)))
+    let cut = first .part-end .ensures .0 in
+    let more = second .part-end2 .ensures .0 in
+    cut-texts input cut more (ran .run .ensures) (omega (arith, first .before .if1 .left))
+    (made .put-answer .ensures .is (verdictOn input) (cut-tells input cut more (ran .run .ensures) (start .pre .0) (start .pre .1 .0)))
 
 pub text-spec : {M : Type 1} → statement M
 text-spec =
@@ -70,4 +73,4 @@ text-spec =
     sub-run-3 part-run-start-3 (λ c. search needs) (λ c κs. search needs) put-answer-requires
     (λ c. output-kept (c .before .before .before .before .before .before .before .before .before .run .ensures))
     (λ c. room-kept (c .before .before .before .before .before .before .before .before .before .run .ensures))
-    (λ c. returns-2 c .kept) returns-2)
+    (λ c. returns-2 c .puts .kept) returns-2)
