@@ -9,12 +9,11 @@ use native.Mathlib.Omega.{arith}
 use lib.IntN.{ℤ}
 use lib.ListN.{length, length-map}
 use borrow.Author.Tests.{lt-ltb}
-use Rattle.meaning.specs.Base.{maybe, eachOr}
+use Rattle.meaning.specs.Base.{maybe, eachOr, Each, noElement, anElement}
 use Rattle.meaning.specs.Covers.{Row, Query, Term, Expression, insertFromQuery, deleteRows, updateRows}
 use Rattle.meaning.specs.Processing.Queries.{chosen, workOut, workOutAll}
 use Rattle.meaning.specs.Processing.Actions.{perform, rowsOf, insertAll, deleteAll, updatedRow, masked, fails}
 use Rattle.meaning.proofs.Lists.{clash, same-some}
-use Rattle.meaning.specs.Base.{Each, noElement, anElement}
 use Rattle.meaning.proofs.ActionsFit.{each-result, chosen-taken}
 use Rattle.meaning.specs.Made.{Taken}
 use Rattle.words.specs.Words.{Bytes}
@@ -32,8 +31,7 @@ use Rattle.changes.specs.declared.Step.{Step}
 use Rattle.changes.specs.declared.Reason.the-variants as reason
 use Rattle.changes.specs.declared.Step.the-variants.{Went, Failed}
 use Rattle.changes.specs.Steps.{Acts, valuesIn, Rewritten, UpdatesAll}
-use Rattle.action.proofs.Aside.{Aside, aside-chosen, aside-worked, aside-more, chosen-stays, live-aside}
-use Rattle.action.proofs.Aside.{acts-after, fails-after}
+use Rattle.action.proofs.Aside.{Aside, aside-chosen, aside-worked, aside-more, chosen-stays, live-aside, acts-after, fails-after}
 
 -- ---- Lists of results
 

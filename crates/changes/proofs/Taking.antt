@@ -15,10 +15,9 @@ use Rattle.meaning.specs.RowOperations.{RowOperation, deletes, updates, handleO
 use Rattle.meaning.specs.Processing.{State}
 use Rattle.meaning.specs.Processing.Actions.{went, deleteAll, updatedRow, updatesOf, updateAll}
 use Rattle.meaning.specs.Trace.{OnlyIn}
-use Rattle.meaning.specs.Made.{Proper, more, Made as MadeFrom}
+use Rattle.meaning.specs.Made.{Proper, more, Made as MadeFrom, Taken, oneTaken}
 use Rattle.meaning.proofs.Lookups.{rowAt-other}
 use Rattle.meaning.proofs.ActionsFit.{taken-in, updatedRow-only}
-use Rattle.meaning.specs.Made.{Taken, oneTaken}
 use Rattle.words.specs.Words.{Bytes, low32At}
 use Rattle.slots.specs.declared.Slot.{Slot}
 use Rattle.slots.specs.Slots.{tableAt, tableBytes, blank, findIn, removeAt}

@@ -1,7 +1,7 @@
 // Row operations over all rows that an action chose or worked out, one after another.
 ghost use mathlib.Core.Path.{_≡_};
 ghost use Prim.Native.Nat.{_≤_};
-ghost use Rattle.meaning.specs.Processing.Actions.{deleteAll, insertAll, updateAll};
+ghost use Rattle.meaning.specs.Processing.Actions.{deleteAll, insertAll};
 ghost use Rattle.meaning.specs.Made.{Taken};
 ghost use Rattle.slots.specs.Slots.{tableAt};
 ghost use Rattle.room.specs.Room.{CHOSEN, WORKED, liveRows, rowsMeant};

@@ -25,11 +25,10 @@ use Rattle.plan.proofs.Active.{low-own}
 use Rattle.room.specs.declared.Watch.{Watch}
 use Rattle.room.specs.Room.{END, Kept, watchRule, liveRows, transitionIn, waitsIn}
 use Rattle.room.specs.Drawn.{drawnFor, Drew}
-use Rattle.room.specs.Represents.{Settled, Reached}
+use Rattle.room.specs.Represents.{Settled, Reached, seen}
 use Rattle.room.proofs.Kept.{kept-trans}
 use Rattle.room.proofs.Draws.{drawn-whole}
 use Rattle.room.proofs.Marks.{reached-seen, drew}
-use Rattle.room.specs.Represents.{seen}
 use Rattle.room.proofs.Steps.{madeAll-none}
 use Rattle.transition.proofs.Afterwards.{transition-watch}
 use Rattle.changes.specs.declared.Step.{Step}

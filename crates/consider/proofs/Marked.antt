@@ -10,9 +10,8 @@ use Rattle.meaning.specs.Processing.{State}
 use Rattle.words.specs.Words.{Bytes}
 use Rattle.words.proofs.Laws.{all-same}
 use Rattle.room.specs.Drawn.{Drew}
-use Rattle.room.specs.Represents.{Settled, Reached, Running, Ready}
+use Rattle.room.specs.Represents.{Settled, Reached, Running, Ready, seen}
 use Rattle.room.proofs.Marks.{reached-seen, drew}
-use Rattle.room.specs.Represents.{seen}
 
 -- marks at 0 that follow count for no more than missing ones
 zeros-follow : (l : List ℕ) (n j : ℕ) → getD (l ++ replicate n 0) j 0 ≡ getD l j 0

@@ -5,8 +5,7 @@ use lib.ListN.{length}
 use Rattle.meaning.specs.Covers.{Image}
 use Rattle.meaning.specs.Processing.{State, consider}
 use Rattle.room.specs.Room.{END, Laid, Kept}
-use Rattle.room.specs.Represents.{Settled, Reached}
-use Rattle.room.specs.Represents.{seen}
+use Rattle.room.specs.Represents.{Settled, Reached, seen}
 use Rattle.changes.specs.declared.Step.{Step}
 use Rattle.changes.specs.Steps.{Follows}
 use Rattle.plan.specs.declared.Plan.{Plan}

@@ -18,8 +18,7 @@ use Rattle.slots.proofs.Order.{place-within}
 use Rattle.slots.proofs.Tables.{table-length, table-kept-above, stands-kept-above, holds-size}
 use Rattle.room.specs.Room.{SPARE, STRETCH}
 use Rattle.room.specs.Joins.{asEffect, joinedSlot, joinSlot, keptSlot, joinSlots, joinStretch, settledAt}
-use Rattle.effects.specs.Settling.{Passed, Settles, Loom, Weavable, Wove, Aside}
-use Rattle.effects.specs.Settling.{rest, tableIn, joinedAt, woven, wovenFrom}
+use Rattle.effects.specs.Settling.{Passed, Settles, Loom, Weavable, Wove, Aside, rest, tableIn, joinedAt, woven, wovenFrom}
 use Rattle.effects.proofs.KindTable.{kind-of}
 use Rattle.effects.proofs.Joining.{hit-true}
 use Rattle.effects.proofs.Weaving.{place-after, passed-place, passed-before, passed-hit, passed-on, woven-hit, woven-new, rest-front}

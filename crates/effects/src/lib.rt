@@ -14,8 +14,7 @@ ghost use Rattle.words.specs.Words.{low32At};
 ghost use Rattle.slots.specs.Slots.{tableAt, Stands, Holds, Sorted, placeIn, hit};
 ghost use Rattle.room.specs.Room.{STRETCH, SPARE, Laid, watchRule, effectMeant, waitsIn};
 ghost use Rattle.room.specs.Joins.{asEffect, joinSlot, joinSlots, Takes, Settleable, AllSettled, settledAt};
-ghost use Rattle.effects.specs.Settling.{Settles, Loom, Passed, Weavable, Wove, Aside, WaitsSettled};
-ghost use Rattle.effects.specs.Settling.{joinedAt, tableIn, wovenFrom};
+ghost use Rattle.effects.specs.Settling.{Settles, Loom, Passed, Weavable, Wove, Aside, WaitsSettled, joinedAt, tableIn, wovenFrom};
 use room::Watch;
 use slots::Slot;
 

@@ -3,7 +3,7 @@ use mathlib.Core.Path.{_≡_}
 use mathlib.Core.List.{List}
 use Prim.Native.Nat.{ℕ}
 use Rattle.meaning.specs.EntryPoints as EntryPoints
-use Rattle.meaning.specs.EntryPoints.{CheckAnswer, CheckResult, refusedCheck, ruleCount, checkBook, refusedWith, ran}
+use Rattle.meaning.specs.EntryPoints.{CheckAnswer, refusedCheck, ruleCount, checkBook, ruleBytes, refusedWith, ran}
 use Rattle.processing.specs.Endings.{outcomeMeant}
 use Rattle.engine.specs.declared.Refusal.{Refusal}
 use Rattle.engine.specs.declared.Refusal.the-variants.{Output, Room, Image, Book, Cycle, Log}
@@ -35,3 +35,7 @@ answerMeant (answer.Ran o n) = ran (outcomeMeant o) n
 -- the answer, every byte of the output and every byte of the working room afterwards are those of the specification
 pub record Runs (image book log before after xs ys : List ℕ) (r : Answer) : Type 0 where
   pub result : EntryPoints.run image book log before xs ≡ record { answer = answerMeant r; output = after; room = ys }
+
+-- the bytes that are given are those of the specification
+abbrev pub Gives : List ℕ → ℕ → List ℕ → Type 0
+Gives book k bytes = bytes ≡ ruleBytes book k

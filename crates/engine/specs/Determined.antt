@@ -3,10 +3,9 @@
 use mathlib.Core.Path.{_≡_}
 use mathlib.Core.List.{List}
 use Prim.Native.Nat.{ℕ}
-use Rattle.meaning.specs.EntryPoints.{ruleBytes}
 use Rattle.engine.specs.declared.Answer.{Answer}
 use Rattle.engine.specs.declared.Checked.{Checked}
-use Rattle.engine.specs.Answers.{Checks, Runs}
+use Rattle.engine.specs.Answers.{Checks, Gives, Runs}
 
 -- any two exits that meet a contract are equal
 abbrev pub NoChoice : {Exit : Type 0} → (Exit → Type 0) → Type 0
@@ -19,4 +18,4 @@ pub record Determined : Type 0 where
   -- a book check: answer and output
   pub ofCheck : (book before : List ℕ) → NoChoice {Exit = Checked × List ℕ} (λ (r, after). Checks book before after r)
   -- the bytes of rule k
-  pub ofRule : (book : List ℕ) (k : ℕ) → NoChoice (λ r. r ≡ ruleBytes book k)
+  pub ofRule : (book : List ℕ) (k : ℕ) → NoChoice (Gives book k)

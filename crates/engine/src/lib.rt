@@ -4,8 +4,7 @@ ghost use mathlib.Core.Path.{_≡_};
 ghost use Prim.Native.Nat.{_≤_};
 ghost use lib.ListN.{length, take};
 ghost use Rattle.meaning.specs.Base.{inFrontOf};
-ghost use Rattle.meaning.specs.EntryPoints.{ruleBytes};
-ghost use Rattle.engine.specs.Answers.{Checks, Runs};
+ghost use Rattle.engine.specs.Answers.{Checks, Gives, Runs};
 use book::BookRead;
 use image::ImageRead;
 use log::LogRead;
@@ -121,7 +120,7 @@ pub fn check(book: &[u8], out: &mut [u8]) -> Checked
 // The bytes of rule k as a part of the caller's book: empty if the book has refusal 4 or 5 or there is no
 // rule k.
 pub fn rule(book: &[u8], k: usize) -> &[u8]
-    ensures { λ r. ⌜ now r ≡ ruleBytes (now (book .entry)) k ⌝ }
+    ensures { λ r. ⌜ Gives (now (book .entry)) k (now r) ⌝ }
 {
     match book::judge(book) {
         BookRead::Is { limit: _, count } => {

@@ -4,9 +4,8 @@ use Prim.Native.Nat.{ℕ}
 use Rattle.meaning.specs.Covers.{Rule, Image}
 use Rattle.words.specs.Words.{Bytes}
 use Rattle.room.specs.Joins.{RulesEnd}
-use Rattle.room.specs.Represents.{Represents}
+use Rattle.room.specs.Represents.{Represents, starting}
 use Rattle.room.proofs.Marks.{represents-starting}
-use Rattle.room.specs.Represents.{starting}
 use Rattle.loading.specs.Loads.{Loaded}
 
 pub loaded-represents : (rules : List Rule) {start : Image} {xs ys tables : List ℕ} → Loaded start xs ys → Bytes ys → RulesEnd tables

@@ -11,7 +11,7 @@ use lib.Signed.{mag}
 use lib.Dec.{eqb, ltb, leb}
 use lib.ListN.{length, getD, length-append}
 use borrow.Author.Tests.{ltb-false, leb-true, ne-eqb}
-use Rattle.meaning.specs.Base.{if_then_else_, maybe, bit, select, both, eachOr}
+use Rattle.meaning.specs.Base.{if_then_else_, maybe, bit, select, both, eachOr, Each, noElement, anElement}
 use Rattle.meaning.specs.Values.{inRange, plus}
 use Rattle.meaning.specs.Covers.{mostRows, lastHandle, Row, Image, Source, Term, Query, Expression, Action, LogOperation, Outcome}
 use Rattle.meaning.specs.Covers.{Reason, rolledBack, failed, current, inserted, deleted, newUpdated, oldUpdated, fixed}
@@ -26,7 +26,6 @@ use Rattle.meaning.specs.Trace.{OnlyIn}
 use Rattle.meaning.specs.Made.{InRange, Proper, Rising, noRow, above, Sound, insertFits, deleteFits, updateFits, Made, Taken, noneTaken, oneTaken}
 use Rattle.meaning.specs.Made as Of
 use Rattle.meaning.proofs.Lists.{clash, same-some, each-select, eqb-self}
-use Rattle.meaning.specs.Base.{Each, noElement, anElement}
 use Rattle.meaning.proofs.Lookups.{rowAt-head, rowAt-skip, found-so, found-handle, rowAt-without-other, rowAt-withRow-other}
 use Rattle.meaning.proofs.Lookups.{made-append}
 use Rattle.meaning.proofs.Images.{rising-proper, makeAll-sound}

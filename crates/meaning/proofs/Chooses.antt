@@ -20,7 +20,7 @@ use Rattle.meaning.specs.Processing.Queries.{cell, agreeOn, sourceRows, 
 use Rattle.meaning.specs.Made.{Rising, noRow, above}
 use Rattle.meaning.specs.Runs.{Accepted, imageAfter}
 use Rattle.meaning.specs.Theorems.Shows.{RisesFrom}
-use Rattle.meaning.specs.Theorems.Chooses.{Compares, AgreeOn, Matched, Says, Chooses, Rises}
+use Rattle.meaning.specs.Theorems.Chooses.{Compares, AgreeOn, Matched, TermSays, Chooses, Rises}
 use Rattle.meaning.proofs.Lists.{true-is-false, and-true, or-cases, or-left, or-right}
 use Rattle.meaning.proofs.Shows.{shows}
 use Rattle.meaning.proofs.Admitted.{admitted}
@@ -116,14 +116,14 @@ module _ (t : Transition) (rows : List Row) where
     λ m. some-any (agreeOn ps x) (agree-on ps x) (sourceRows t rows s) (m .0) (m .1) (m .2),
   )
 
-  says : (x : Row) (e : Term) → (holds t rows x e ≡ true) ↔ Says t rows x e
+  says : (x : Row) (e : Term) → (holds t rows x e ≡ true) ↔ TermSays t rows x e
   unfolding holds
   says x (constant k c v) = compares k (cell x c) v
   says x (columns k c d) = compares k (cell x c) (cell x d)
   says x (match s ps) = matches s ps x
   says x (noMatch s ps) = opposite (any (agreeOn ps x) (sourceRows t rows s)) (matches s ps x)
 
-  all-say : (ts : List Term) (x : Row) → (allHold t rows ts x ≡ true) ↔ Each (Says t rows x) ts
+  all-say : (ts : List Term) (x : Row) → (allHold t rows ts x ≡ true) ↔ Each (TermSays t rows x) ts
   unfolding allHold
   all-say ts x = all-each (holds t rows x) (says x) ts
 

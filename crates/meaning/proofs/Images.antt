@@ -8,10 +8,9 @@ use native.Mathlib.Omega.{arith}
 use lib.Dec.{eqb}
 use lib.ListN.{length, length-append, length-map}
 use borrow.Author.Tests.{eqb-true}
-use Rattle.meaning.specs.Base.{if_then_else_}
+use Rattle.meaning.specs.Base.{if_then_else_, Each, noElement, anElement}
 use Rattle.meaning.specs.Covers.{Row, Image}
 use Rattle.meaning.specs.RowOperations.{RowOperation, without, withRow, make, makeAll}
-use Rattle.meaning.specs.Base.{Each, noElement, anElement}
 use Rattle.meaning.specs.Made.{Proper, Rising, noRow, above, Sound, Fits, insertFits, deleteFits, updateFits, Made}
 use Rattle.meaning.specs.Made as Of
 

@@ -13,7 +13,7 @@ use Rattle.meaning.specs.RowOperations.{RowOperation, NetEffect}
 use Rattle.meaning.specs.Processing.{State, Event, made, considered, Ending, ended, afterEvents, waits, runLog, considerRule}
 use Rattle.meaning.specs.Processing.{consider, consideration, firstTriggered}
 use Rattle.meaning.specs.Trace.{considerationsIn, Consideration, Rest, further, atCommit, atLimit, Makes}
-use Rattle.meaning.specs.Runs.{Accepted, endingOf, waitsFor, rule, isTriggered, imageAfter}
+use Rattle.meaning.specs.Runs.{Accepted, endingOf, waitsFor, numbered, isTriggered, imageAfter}
 use Rattle.meaning.specs.Theorems.Lawful.{Lawful}
 use Rattle.meaning.proofs.Lists.{first-is}
 use Rattle.meaning.proofs.Traces.{considerations-made, Steps, commits, meetsLimit, endsRun, goesOn, Runs, logEnds, logDone}
@@ -29,7 +29,7 @@ module _ {image book log : List ℕ} (a : Accepted image book log) (e : Ending) 
   record Turn (past : List Event) (k : ℕ) (given : NetEffect) (after : List Event) : Type 0 where
     pub isFirst : firstWith (isTriggered a past) (a .order) ≡ some k
     pub isGiven : given ≡ waitsFor k past
-    pub acts : (r : Rule) → rule a k ≡ some r → Makes e (considerRule r given (imageAfter a past)) after
+    pub acts : (r : Rule) → numbered a k ≡ some r → Makes e (considerRule r given (imageAfter a past)) after
 
   -- of the end, with this outcome
   abbrev Due : List Event → Outcome → Type 0

@@ -13,7 +13,7 @@ use Rattle.meaning.specs.Processing.{State, Event, made, considered, End
 use Rattle.meaning.specs.Processing.{consideration, firstTriggered, steps, afterLog, process}
 use Rattle.meaning.specs.Processing.Actions.{Result, went, ends, onward}
 use Rattle.meaning.specs.Trace.{operationsIn, considerationsIn, Consideration, Rest, further, atCommit, atLimit, Makes}
-use Rattle.meaning.specs.Runs.{Accepted, endingOf, rule, isTriggered, imageAfter}
+use Rattle.meaning.specs.Runs.{Accepted, endingOf, numbered, isTriggered, imageAfter}
 use Rattle.meaning.specs.Theorems.Lawful.{Lawful}
 use Rattle.meaning.proofs.Lists.{true-is-false, first-is}
 use Rattle.meaning.proofs.Lookups.{makeAll-append}
@@ -104,7 +104,7 @@ module _ {image book log : List ℕ} (a : Accepted image book log) where
       is-given : g ≡ waits s k
       is-given = l .given here ∙ sym (waits-is a h k)
 
-      makes-by : (r : Rule) → rule a k ≡ some r → Makes e (consider (a .ruleBook .rules) s k) es
+      makes-by : (r : Rule) → numbered a k ≡ some r → Makes e (consider (a .ruleBook .rules) s k) es
       makes-by r b = rw (considers (a .ruleBook .rules) s k r b, ← is-given, image-is a h) (l .acts here r b)
 
       makes : Makes e (consider (a .ruleBook .rules) s k) es

@@ -7,14 +7,13 @@ use Prim.Native.Nat.{ℕ, suc, _≤_}
 use native.Mathlib.Omega.{arith}
 use lib.Dec.{eqb}
 use lib.ListN.{length}
-use Rattle.meaning.specs.Base.{if_then_else_, bit, any, select, gather}
+use Rattle.meaning.specs.Base.{if_then_else_, bit, any, gather, Each, noElement, anElement}
 use Rattle.meaning.specs.Covers.{Row, Rule, Image}
 use Rattle.meaning.specs.RowOperations.{RowOperation, rowAt, makeAll, Effect, nothing, onTable, ownOf}
 use Rattle.meaning.specs.RowOperations.{inserted, deleted, updated, NetEffect, net, named, entry, entries, netEffect}
 use Rattle.meaning.specs.Processing.TransitionTables.{ownTable, meets, wakes, ownRow, deletedRow, oldRow, liveRow}
 use Rattle.meaning.specs.Processing.TransitionTables.{insertedRow, newRow, transition}
 use Rattle.meaning.specs.Trace.{Differs, stays, comes, goes, changes}
-use Rattle.meaning.specs.Base.{Each, noElement, anElement}
 use Rattle.meaning.specs.Made.{Sound, Made}
 use Rattle.meaning.proofs.NetEffects.{Listed, noEntry, oneEntry}
 use Rattle.meaning.proofs.Lives.{differs}

@@ -14,13 +14,12 @@ use lib.Dec.{eqb, leb, ltb}
 use lib.ListN.{length, take, drop, length-append, length-drop}
 use lib.Seq.{take-append-seam, drop-cons, drop-drop, drop-append-seam, drop-length, getD-drop}
 use borrow.Author.Tests.{eqb-true, eq-eqb, leb-true, le-leb, ltb-true, ltb-false, lt-ltb, le-ltb}
-use Rattle.meaning.specs.Base.{if_then_else_, within}
+use Rattle.meaning.specs.Base.{if_then_else_, within, Each, noElement, anElement}
 use Rattle.meaning.specs.Reading.{Read, bad, got, Parser, onFrom, must, byteAt, byteWithin, byte, number16, number32, many, bytesLeft}
 use Rattle.meaning.specs.Reading.{readAll, valueOf}
 use Rattle.meaning.specs.Values.{signed, unsigned}
 use Rattle.meaning.specs.ByteLayouts.{value, framed, bytes2, bytes4}
 use Rattle.meaning.proofs.Lists.{and-true}
-use Rattle.meaning.specs.Base.{Each, noElement, anElement}
 
 -- ---- Bytes in a slice
 

@@ -10,7 +10,7 @@ use borrow.Author.Tests.{leb-true}
 use lib.Dec.{eqb, ltb, leb}
 use lib.Count.{ones}
 use lib.ListN.{length}
-use Rattle.meaning.specs.Base.{if_then_else_, maybe, within}
+use Rattle.meaning.specs.Base.{if_then_else_, maybe, within, Each}
 use Rattle.meaning.specs.Reading.{Read, bad, got, Parser, _>>=_, _>>_, pure, malformed, must, byteWithin, byte, number16, number32}
 use Rattle.meaning.specs.Reading.{many, readAll}
 use Rattle.meaning.specs.Covers.{mostRules, mostActions, mostOperations, mostSteps, Book, LogOperation}
@@ -23,7 +23,6 @@ use Rattle.meaning.specs.EntryPoints.{refusedBook, acceptedBook, judgeBo
 use Rattle.meaning.specs.Trace.{operationsIn, sinceLast}
 use Rattle.meaning.specs.Runs.{Accepted, endingOf}
 use Rattle.meaning.proofs.Lists.{and-true}
-use Rattle.meaning.specs.Base.{Each}
 use Rattle.meaning.specs.Made.{InRange, Sound, Made}
 use Rattle.meaning.proofs.Lookups.{made-front, made-back}
 use Rattle.meaning.proofs.Images.{makeAll-sound}

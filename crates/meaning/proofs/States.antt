@@ -13,7 +13,7 @@ use Rattle.meaning.specs.Processing.{State, Event, made, waits, runLog, 
 use Rattle.meaning.specs.Processing.{afterLog}
 use Rattle.meaning.specs.Processing.Actions.{went}
 use Rattle.meaning.specs.Trace.{considerationsIn}
-use Rattle.meaning.specs.Runs.{Accepted, waitsFor, rule, isTriggered, imageAfter}
+use Rattle.meaning.specs.Runs.{Accepted, waitsFor, numbered, isTriggered, imageAfter}
 use Rattle.meaning.proofs.Lists.{true-is-false, there-below, some-passes, first-none, has-none}
 use Rattle.meaning.proofs.Orders.{in-order}
 use Rattle.meaning.proofs.Traces.{considerations-append, considerations-made, one-consideration}
@@ -77,9 +77,9 @@ module _ {image book log : List ℕ} (a : Accepted image book log) where
   -- ---- The rules that are triggered
 
   module _ (past : List Event) (k : ℕ) where
-    triggered-rule : isTriggered a past k ≡ true → (r : Rule) × (rule a k ≡ some r)
+    triggered-rule : isTriggered a past k ≡ true → (r : Rule) × (numbered a k ≡ some r)
     unfolding isTriggered
-    triggered-rule t = some-passes _ (rule a k) t
+    triggered-rule t = some-passes _ (numbered a k) t
 
     -- every rule of the book stands in the order: where the search finds none, none is triggered
     pub none-triggered : firstWith (isTriggered a past) (a .order) ≡ none → isTriggered a past k ≡ false

@@ -7,7 +7,7 @@ use mathlib.Core.Option.{Option, none, some}
 use Prim.Native.Nat.{ℕ, suc}
 use lib.Dec.{eqb}
 use lib.ListN.{getD, getElem?}
-use Rattle.meaning.specs.Base.{if_then_else_, maybe, before, gather}
+use Rattle.meaning.specs.Base.{if_then_else_, maybe, before, gather, Each, noElement, anElement}
 use Rattle.meaning.specs.Covers.{Row, Image, Rule, Action, LogOperation, Outcome, commit, stepLimit}
 use Rattle.meaning.specs.RowOperations.{RowOperation, inserts, deletes, updates, Effect, NetEffect, nothing, inserted, deleted}
 use Rattle.meaning.specs.RowOperations.{updated, handleOf, rowAt, makeAll, kind, joinKind, over, joinedAs, join, effectOf, single}
@@ -21,7 +21,6 @@ use Rattle.meaning.specs.Trace.{operationsIn}
 use Rattle.meaning.specs.Made.{Proper, Sound, deleteFits, updateFits, Made}
 use Rattle.meaning.specs.Made as Of
 use Rattle.meaning.proofs.Lists.{clash, same-some, each-drop, each-element}
-use Rattle.meaning.specs.Base.{Each, noElement, anElement}
 use Rattle.meaning.proofs.Lookups.{found-so, makeAll-append, made-append}
 use Rattle.meaning.proofs.Images.{rising-proper, make-sound, makeAll-sound}
 use Rattle.meaning.proofs.Traces.{operations-append, operations-made, Steps, commits, meetsLimit, endsRun, goesOn, Runs, logEnds}

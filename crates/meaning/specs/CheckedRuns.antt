@@ -9,7 +9,7 @@ use Rattle.meaning.specs.Base.{ascii}
 use Rattle.meaning.specs.Covers.{Row, commit, rolledBack, stepLimit, failed, full, handlesUsedUp}
 use Rattle.meaning.specs.ByteLayouts.{bytes4}
 use Rattle.meaning.specs.RowOperations.{net, inserts, deletes, updates, nothing, inserted, updated}
-use Rattle.meaning.specs.EntryPoints.{Answer, CheckAnswer, CheckResult, Verdict, refusedWith, ran, refusedCheck, ruleCount}
+use Rattle.meaning.specs.EntryPoints.{Answer, CheckAnswer, Verdict, refusedWith, ran, refusedCheck, ruleCount}
 use Rattle.meaning.specs.EntryPoints.{verdict, answerOf, written, checkBook, printed, imageMalformed, precedesCycle}
 use Rattle.meaning.specs.Everything.{everything}
 

@@ -1,13 +1,11 @@
 -- Entry points and what they say: refusals in their order, answers with their numbers, and what each call leaves in what it was lent.
-use mathlib.Core.Bool.{Bool}
 use mathlib.Core.List.{List, [], _∷_, _++_, map}
-use mathlib.Core.Option.{Option, none, some}
 use Prim.Native.Nat.{ℕ, zero, suc, _+_, _-_, _/_, _%_, min}
 use lib.IntN.{ℤ, pos, negsuc}
 use lib.Dec.{ltb}
 use lib.ListN.{length, take, drop, replicate}
 use Rattle.meaning.specs.Base.{if_then_else_, maybe, inFrontOf, ascii}
-use Rattle.meaning.specs.Reading.{Read, bad, got, onFrom, many, number32, readAll}
+use Rattle.meaning.specs.Reading.{Read, bad, got, many, number32, readAll}
 use Rattle.meaning.specs.Covers.{Row, Image, Book, Outcome, Reason}
 use Rattle.meaning.specs.Covers.{commit, rolledBack, stepLimit, failed, noSuchRow, full, handlesUsedUp, sumOutOfRange}
 use Rattle.meaning.specs.ByteLayouts

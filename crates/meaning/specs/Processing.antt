@@ -13,7 +13,7 @@ pub mod Queries
 pub mod Actions
 use TransitionTables.{Transition, wakes, transition}
 use Queries.{chosen}
-use Actions.{Result, went, ends, onward, andThen, operate, perform}
+use Actions.{Result, went, onward, andThen, operate, perform}
 
 -- ---- The state of a run, and its trace
 

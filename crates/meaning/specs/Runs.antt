@@ -12,7 +12,7 @@ use Rattle.meaning.specs.ByteLayouts
 use Rattle.meaning.specs.RowOperations.{NetEffect, netEffect, rowAt, makeAll}
 use Rattle.meaning.specs.Processing.{Ending, Event, process}
 use Rattle.meaning.specs.Processing.TransitionTables.{wakes}
-use Rattle.meaning.specs.EntryPoints.{Refusal, Verdict, refused, accepted, verdict, acceptedBook, judgeBook}
+use Rattle.meaning.specs.EntryPoints.{Refusal, refused, accepted, verdict, acceptedBook, judgeBook}
 use Rattle.meaning.specs.Trace.{operationsIn, sinceLast}
 
 -- image, book and log are as document 01 wants them
@@ -46,12 +46,12 @@ waitsFor k past = netEffect (sinceLast k past)
 
 module _ {image book log : List ℕ} (a : Accepted image book log) where
   -- the rules of its book, by their numbers
-  abbrev pub rule : ℕ → Option Rule
-  rule k = getElem? (a .ruleBook .rules) k
+  abbrev pub numbered : ℕ → Option Rule
+  numbered k = getElem? (a .ruleBook .rules) k
 
   -- an active rule is triggered if what waits for it wakes it
   unfoldable pub isTriggered : List Event → ℕ → Bool
-  isTriggered past k = maybe (rule k) false (λ r. r .active && any (λ p. wakes r (p .1)) (waitsFor k past))
+  isTriggered past k = maybe (numbered k) false (λ r. r .active && any (λ p. wakes r (p .1)) (waitsFor k past))
 
   -- the start image with the operations made on it
   unfoldable pub imageAfter : List Event → Image

@@ -1,30 +1,16 @@
--- The behaviour is determined: for each exported call, two results (answer, output, working room) that satisfy its contract on the same
--- input are equal, refusals too. Statements only. What each call ensures is said by the relation that stands before the arrow, twice: of one
--- result, and of another.
-use mathlib.Core.Path.{_≡_}
+-- The contracts of the exported calls leave no choice: of calls with the same entry, any two exits that meet the `ensures` are equal,
+-- refusals too.
 use mathlib.Core.List.{List}
 use Prim.Native.Nat.{ℕ}
+use Rattle.engine.specs.Determined.{NoChoice}
 use Rattle.mordashun_c.specs.Answered.{RunAnswered, CheckAnswered}
-use Rattle.mordashun_c.specs.Places.{ruleWord}
-
--- two results of a run are one: the words, the outputs and the working rooms afterwards
-pub record SameRun (word word′ : ℕ) (output output′ room room′ : List ℕ) : Type 0 where
-  pub words : word ≡ word′
-  pub outputs : output ≡ output′
-  pub rooms : room ≡ room′
-
--- two results of a book check
-pub record SameCheck (word word′ : ℕ) (output output′ : List ℕ) : Type 0 where
-  pub words : word ≡ word′
-  pub outputs : output ≡ output′
+use Rattle.mordashun_c.specs.Places.{RuleAnswered}
 
 pub record Determined : Type 0 where
-  -- `mordashun_run`, lent an output and a working room that hold `before` and `xs`
-  pub ofRun : (image book log before xs : List ℕ) (word word′ : ℕ) (output output′ room room′ : List ℕ)
-      → RunAnswered image book log before output xs room word → RunAnswered image book log before output′ xs room′ word′
-      → SameRun word word′ output output′ room room′
-  -- `mordashun_check`, lent an output that holds `before`
-  pub ofCheck : (book before : List ℕ) (word word′ : ℕ) (output output′ : List ℕ)
-      → CheckAnswered book before output word → CheckAnswered book before output′ word′ → SameCheck word word′ output output′
-  -- `mordashun_rule`, which is lent nothing to write
-  pub ofRule : (book : List ℕ) (k word word′ : ℕ) → word ≡ ruleWord book k → word′ ≡ ruleWord book k → word ≡ word′
+  -- `mordashun_run`: word, output and working room
+  pub ofRun : (image book log before xs : List ℕ)
+      → NoChoice {Exit = ℕ × List ℕ × List ℕ} (λ (w, after, ys). RunAnswered image book log before after xs ys w)
+  -- `mordashun_check`: word and output
+  pub ofCheck : (book before : List ℕ) → NoChoice {Exit = ℕ × List ℕ} (λ (w, after). CheckAnswered book before after w)
+  -- `mordashun_rule`: the word
+  pub ofRule : (book : List ℕ) (k : ℕ) → NoChoice (RuleAnswered book k)

@@ -41,6 +41,10 @@ placeWord start bytes = start * 4294967296 + length bytes
 unfoldable pub ruleWord : List ℕ → ℕ → ℕ
 ruleWord book k = placeWord (ruleStart book k) (ruleBytes book k)
 
+-- the word is that of rule k
+abbrev pub RuleAnswered : List ℕ → ℕ → ℕ → Type 0
+RuleAnswered book k w = w ≡ ruleWord book k
+
 -- the same of a book of n rules, whatever else is said of the book
 abbrev pub wordAmong : List ℕ → ℕ → ℕ → ℕ
 wordAmong book n k =

@@ -25,7 +25,7 @@ ghost use Rattle.meaning.specs.EntryPoints.{refusalNumber, ruleCount};
 ghost use Rattle.processing.specs.Endings.{outcomeMeant};
 ghost use Rattle.engine.specs.Answers.{refusalMeant};
 ghost use Rattle.mordashun_c.specs.Answered.{answerWord, checkWord, RunAnswered, CheckAnswered};
-ghost use Rattle.mordashun_c.specs.Places.{ruleWord, wordAmong};
+ghost use Rattle.mordashun_c.specs.Places.{RuleAnswered, wordAmong};
 use book::BookRead;
 use book::RuleRead;
 use engine::Answer;
@@ -133,7 +133,7 @@ fn place_in(book: &[u8], n: usize, k: usize) -> u64
 // or there is no rule k.
 #[no_mangle]
 pub extern "C" fn mordashun_rule(book: &[u8], k: usize) -> u64
-    ensures { λ w. ⌜ w ≡ ruleWord (now (book .entry)) k ⌝ }
+    ensures { λ w. ⌜ RuleAnswered (now (book .entry)) k w ⌝ }
 {
     match book::judge(book) {
         BookRead::Is { limit: _, count } => {

@@ -11,10 +11,9 @@ use Rattle.meaning.specs.Processing.{runLog, ended, afterEvents, afterLog, step
 use Rattle.meaning.specs.Processing.Actions.{went, ends, onward}
 use Rattle.meaning.specs.Made.{Sound}
 use Rattle.words.specs.Words.{readable}
-use Rattle.room.specs.Represents.{Represents, Running, madeAll}
+use Rattle.room.specs.Represents.{Represents, Running, madeAll, starting}
 use Rattle.room.proofs.Kept.{kept-trans}
 use Rattle.room.proofs.Marks.{starting-log, reached-starting}
-use Rattle.room.specs.Represents.{starting}
 use Rattle.changes.specs.declared.Reason.{Reason}
 use Rattle.changes.specs.declared.Step.{Step}
 use Rattle.changes.specs.declared.Step.the-variants.{Went, RolledBack, Failed}

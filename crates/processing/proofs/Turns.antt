@@ -8,7 +8,7 @@ use mathlib.Core.Option.{none, some}
 use Prim.Native.Nat.{ℕ, _+_, _-_, _≤_, _<_}
 use native.Mathlib.Omega.{arith}
 use lib.ListN.{length, getD, length-append, length-set}
-use Rattle.meaning.specs.Base.{any}
+use Rattle.meaning.specs.Base.{any, Each}
 use Rattle.meaning.specs.Covers as Covers
 use Rattle.meaning.specs.Covers.{Image, Rule}
 use Rattle.meaning.specs.RowOperations.{RowOperation}
@@ -16,13 +16,11 @@ use Rattle.meaning.specs.Processing.{State, Event, Ending, ended, afterEvents, 
 use Rattle.meaning.specs.Processing.TransitionTables.{wakes}
 use Rattle.meaning.specs.Processing.Actions.{Result, went, ends}
 use Rattle.meaning.proofs.Lists.{and-true, first-is, there-below}
-use Rattle.meaning.specs.Base.{Each}
 use Rattle.meaning.proofs.StepsFit.{GoodRule, Built, built-moved}
 use Rattle.meaning.proofs.RunsFit.{rule-gives}
 use Rattle.words.proofs.Laws.{readable-each}
-use Rattle.room.specs.Represents.{Represents, madeAll}
+use Rattle.room.specs.Represents.{Represents, madeAll, seen}
 use Rattle.room.proofs.Marks.{seen-moved, reached-seen}
-use Rattle.room.specs.Represents.{seen}
 use Rattle.changes.specs.declared.Reason.{Reason}
 use Rattle.changes.specs.declared.Step.{Step}
 use Rattle.changes.specs.declared.Step.the-variants.{Went, RolledBack, Failed}

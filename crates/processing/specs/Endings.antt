@@ -10,8 +10,7 @@ use Rattle.meaning.specs.Processing.{Ending, process}
 use Rattle.meaning.specs.Made.{Sound}
 use Rattle.words.specs.Words.{low32At, readable}
 use Rattle.room.specs.Room.{NEXT, END, Laid, Kept, liveRows}
-use Rattle.room.specs.Represents.{Represents}
-use Rattle.room.specs.Represents.{starting}
+use Rattle.room.specs.Represents.{Represents, starting}
 use Rattle.changes.specs.Steps.{reasonMeant}
 use Rattle.plan.specs.declared.Plan.{Plan}
 use Rattle.plan.specs.Plans.{rulesIn}

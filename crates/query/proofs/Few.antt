@@ -5,8 +5,7 @@ use Prim.Native.Nat.{ℕ, _≤_}
 use native.Mathlib.Omega.{arith}
 use lib.Dec.{eqb, ltb}
 use lib.ListN.{length}
-use Rattle.meaning.specs.Base.{if_then_else_}
-use Rattle.meaning.specs.Reading.{byte, byteWithin, many}
+use Rattle.meaning.specs.Reading.{byte, byteWithin}
 use Rattle.meaning.specs.Covers.{Source, Pair, Term, match, noMatch, mostPairs}
 use Rattle.meaning.specs.ByteLayouts as ByteLayouts
 use Rattle.meaning.specs.ByteLayouts.{value, column}

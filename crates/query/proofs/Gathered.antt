@@ -8,7 +8,7 @@ use native.Mathlib.Omega.{arith}
 use borrow.Author.Tests.{ltb-true, ltb-false}
 use lib.Dec.{ltb}
 use lib.ListN.{length}
-use Rattle.meaning.specs.Covers.{Row, Pair}
+use Rattle.meaning.specs.Covers.{Row}
 use Rattle.meaning.specs.ByteLayouts.{pair}
 use Rattle.meaning.specs.Reading.{bad, got}
 use Rattle.meaning.specs.Processing.Queries.{cell, agreeOn}

@@ -2,10 +2,10 @@
 -- table of the chosen ones.
 use mathlib.Core.Path.{_≡_, sym, ap, _∙_}
 use mathlib.Core.List.{List, [], _∷_, _++_, map-append}
-use Prim.Native.Nat.{ℕ, suc, _+_, _-_, _%_, _≤_, _<_}
+use Prim.Native.Nat.{ℕ, _+_, _-_, _%_, _≤_, _<_}
 use native.Mathlib.Omega.{arith}
-use lib.ListN.{length, getD, take, drop, drop-of-length-le, length-map}
-use lib.Seq.{drop-cons, length-take-le}
+use lib.ListN.{length, getD, take, length-map}
+use lib.Seq.{length-take-le}
 use Rattle.meaning.specs.Base.{select}
 use Rattle.meaning.specs.Covers.{Row}
 use Rattle.words.specs.Words.{low32At}

@@ -13,7 +13,7 @@ use lib.ListN.{length, getD, length-map}
 use borrow.Author.Tests.{eqb-true, ne-eqb}
 use Rattle.meaning.specs.Base.{any, gather}
 use Rattle.meaning.specs.Covers.{Row, Rule, Image}
-use Rattle.meaning.specs.RowOperations.{RowOperation, Effect, NetEffect, rowAt, net, netEffect, effectAt}
+use Rattle.meaning.specs.RowOperations.{RowOperation, Effect, NetEffect, rowAt, net, netEffect, effectAt, ownOf}
 use Rattle.meaning.specs.Processing.{State, since, waits}
 use Rattle.meaning.specs.Processing.TransitionTables.{wakes, deletedRow, oldRow, insertedRow, newRow, transition}
 use Rattle.meaning.specs.Trace.{Differs, stays, comes, goes, changes}
@@ -22,7 +22,6 @@ use Rattle.meaning.proofs.NetEffects.{Listed, noEntry, oneEntry, says-net, netE
 use Rattle.meaning.proofs.Capacity.{handles, has-live}
 use Rattle.meaning.proofs.Lives.{differs}
 use Rattle.room.specs.Room.{ROWS, liveRows, waitsIn}
-use Rattle.meaning.specs.RowOperations.{ownOf}
 use Rattle.meaning.proofs.OwnTable.{own-gather, own-wakes, own-transition}
 use Rattle.room.specs.Drawn.{drawnFor, Few}
 use Rattle.room.specs.Represents.{Reached, Settled}

@@ -1,7 +1,6 @@
 -- The operations that a room that represents a state can make fit its image: an insert of a slot with the next handle where there is room,
 -- a delete of a live slot, an update of one that changes only the columns of its mask. The row of a live slot is the image's.
 use mathlib.Core.Path.{_≡_, refl, sym, ap, _∙_}
-use mathlib.Core.Bool.{Bool}
 use mathlib.Core.List.{List}
 use Prim.Native.Nat.{ℕ, _≤_, _<_}
 use native.Mathlib.Omega.{arith}

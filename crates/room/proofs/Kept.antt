@@ -2,7 +2,7 @@
 -- which one part was written is laid where the tables of that part stand, as those of the other parts do.
 use mathlib.Core.Path.{_≡_, refl, ap, _∙_}
 use mathlib.Core.List.{List}
-use Prim.Native.Nat.{ℕ, zero, suc, _+_, _*_, _≤_, _<_}
+use Prim.Native.Nat.{ℕ, zero, suc, _+_, _*_, _≤_}
 use native.Mathlib.Omega.{arith}
 use Rattle.words.specs.Words.{low32At}
 use Rattle.slots.specs.Slots.{slotAt, slotsFrom, tableAt, tableBytes, Frame, Stands}

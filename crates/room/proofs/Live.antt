@@ -1,7 +1,7 @@
 -- The live rows, slot by slot: their handles rise, as those of a sound image do, so that a search finds the row that the image has for a
 -- handle; and a push, a removal and a store of a slot do to the rows what an insert, a delete and an update do.
 use mathlib.Core.Path.{_≡_, refl, sym, ap, _∙_}
-use mathlib.Core.Bool.{Bool, false}
+use mathlib.Core.Bool.{false}
 use mathlib.Core.List.{List, [], _∷_, _++_}
 use mathlib.Core.Option.{none, some}
 use Prim.Native.Nat.{ℕ, zero, suc, _<_}

@@ -6,11 +6,11 @@ use mathlib.Core.List.{List, [], append-nil}
 use Prim.Native.Nat.{ℕ, _≤_, _<_}
 use native.Mathlib.Omega.{arith}
 use lib.Dec.{eqb, ltb}
-use lib.ListN.{length, getD, set, drop, replicate, length-set}
+use lib.ListN.{length, getD, set, drop, length-set}
 use lib.Seq.{drop-length, getD-set-same, getD-set-other, set-out}
 use borrow.Author.Tests.{eqb-true, eqb-false, ltb-true, ltb-false}
 use Rattle.meaning.specs.Covers.{Rule, Image}
-use Rattle.meaning.specs.RowOperations.{RowOperation, makeAll, netEffect}
+use Rattle.meaning.specs.RowOperations.{RowOperation, makeAll, netEffect, ownOf}
 use Rattle.meaning.specs.Processing.{State, since, waits, moved, afterLog}
 use Rattle.meaning.specs.Made.{Sound, Made.none as noneMade}
 use Rattle.meaning.proofs.NetEffects.{netEffect-none}
@@ -18,7 +18,6 @@ use Rattle.words.specs.Words.{Bytes, low32At}
 use Rattle.words.proofs.Laws.{all-same}
 use Rattle.slots.specs.Slots.{tableAt}
 use Rattle.room.specs.Room.{NEXT, STRETCH, waitAt, Laid, waitMeant, liveRows, waitsIn, stretchIn}
-use Rattle.meaning.specs.RowOperations.{ownOf}
 use Rattle.room.specs.Joins.{RulesEnd}
 use Rattle.room.specs.Drawn.{Drew}
 use Rattle.room.specs.Represents.{Represents, Settled, Reached, starting, seen, madeAll}

@@ -7,11 +7,10 @@ use native.Mathlib.Omega.{arith}
 use lib.ListN.{length, getD, drop}
 use lib.Seq.{drop-append-le}
 use Rattle.meaning.specs.Covers.{Image}
-use Rattle.meaning.specs.RowOperations.{RowOperation, netEffect}
+use Rattle.meaning.specs.RowOperations.{RowOperation, netEffect, ownOf}
 use Rattle.meaning.specs.Processing.{State, since, waits}
 use Rattle.meaning.proofs.NetEffects.{Listed, netEffect-none, netEffect-listed}
 use Rattle.meaning.proofs.OwnTable.{own-few, own-listed}
-use Rattle.meaning.specs.RowOperations.{ownOf}
 use Rattle.meaning.proofs.Stretches.{own-append}
 use Rattle.words.specs.Words.{Bytes}
 use Rattle.slots.specs.Slots.{tableAt}

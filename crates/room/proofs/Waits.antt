@@ -3,20 +3,19 @@
 use mathlib.Core.Path.{_≡_, refl, sym, ap, _∙_}
 use mathlib.Core.Logic.{_≢_}
 use mathlib.Core.Bool.{Bool, true, false}
-use mathlib.Core.List.{List, [], _∷_, _++_}
+use mathlib.Core.List.{List, [], _∷_}
 use Prim.Native.Nat.{ℕ, zero, suc, _≤_, _<_}
 use native.Mathlib.Omega.{arith}
 use lib.Dec.{eqb, ltb}
 use lib.ListN.{length, getD, length-map}
 use borrow.Author.Tests.{eqb-true}
 use Rattle.meaning.specs.RowOperations.{RowOperation, inserts, deletes, updates, Effect, NetEffect, nothing, inserted, deleted, updated}
-use Rattle.meaning.specs.RowOperations.{kind, joinTable, joinKind, over, joinedAs, join, effectOf, entry}
+use Rattle.meaning.specs.RowOperations.{kind, joinTable, joinKind, over, joinedAs, join, effectOf, entry, onTable, ownOf}
 use Rattle.meaning.proofs.NetEffects.{joinInto, joinOperation, Listed, oneEntry}
 use Rattle.slots.specs.declared.Slot.{Slot}
 use Rattle.slots.specs.Slots.{blank, Sorted}
 use Rattle.room.specs.Room.{rowMeant, effectMeant, entryMeant, waitMeant}
 use Rattle.room.specs.Joins.{asEffect, joinedSlot, joinSlot, keptSlot, joinSlots, joinIf, joinStretch}
-use Rattle.meaning.specs.RowOperations.{onTable, ownOf}
 use Rattle.meaning.proofs.Stretches.{joinEffects, join-into-listed}
 use Rattle.room.specs.Represents.{Says}
 

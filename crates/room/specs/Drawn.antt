@@ -6,9 +6,8 @@ use Prim.Native.Nat.{ℕ, _≤_, _<_}
 use lib.ListN.{length}
 use Rattle.meaning.specs.Covers.{Rule}
 use Rattle.meaning.specs.Processing.TransitionTables.{Transition, transition}
-use Rattle.words.specs.Words.{low32At}
-use Rattle.slots.specs.Slots.{tableAt, Sorted}
-use Rattle.room.specs.Room.{NEXT, LIVE, INSERTED, STRETCH, END, ROWS, waitAt, Laid, Kept, liveRows, transitionIn, waitsIn}
+use Rattle.slots.specs.Slots.{tableAt}
+use Rattle.room.specs.Room.{NEXT, INSERTED, STRETCH, END, ROWS, waitAt, Laid, Kept, liveRows, transitionIn, waitsIn}
 
 -- the transition tables of rule k from what waits for it
 unfoldable pub drawnFor : List ℕ → ℕ → Rule → Transition

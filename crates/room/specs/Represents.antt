@@ -4,12 +4,11 @@ use mathlib.Core.List.{List, [], _∷_, _++_}
 use Prim.Native.Nat.{ℕ, _≤_, _<_}
 use lib.ListN.{length, getD, drop, set, replicate}
 use Rattle.meaning.specs.Covers.{Rule, Image}
-use Rattle.meaning.specs.RowOperations.{RowOperation, handleOf, effectOf, make, makeAll, netEffect}
+use Rattle.meaning.specs.RowOperations.{RowOperation, handleOf, effectOf, make, makeAll, netEffect, ownOf}
 use Rattle.meaning.specs.Processing.{State}
 use Rattle.meaning.specs.Made.{Sound, Made}
 use Rattle.words.specs.Words.{Bytes, low32At}
 use Rattle.slots.specs.declared.Slot.{Slot}
-use Rattle.meaning.specs.RowOperations.{ownOf}
 use Rattle.room.specs.Joins.{RulesEnd}
 use Rattle.room.specs.Room.{NEXT, Laid, effectMeant, liveRows, waitsIn, stretchIn}
 

@@ -13,7 +13,6 @@ use Rattle.meaning.specs.Covers.{Row, Rule}
 use Rattle.meaning.specs.RowOperations.{Effect, NetEffect, nothing, inserted, deleted, updated}
 use Rattle.meaning.specs.Processing.TransitionTables.{Transition}
 use Rattle.meaning.specs.Processing.Actions.{updatedRow}
-use Rattle.words.specs.Words.{low32At}
 use Rattle.slots.specs.declared.Slot.{Slot}
 use Rattle.slots.specs.Slots.{tableAt, Stands}
 use Rattle.room.specs.declared.Watch.{Watch}

@@ -1,6 +1,6 @@
 -- Laws for decoders, by what `words::byte` and `words::has` answered. A parser of one byte gives the byte that was looked at, or is bad,
 -- by whether the range admits it; a row source is read where the triggers admit it; a list that ends somewhere was read.
-use mathlib.Core.Path.{_≡_, refl, sym, ap, _∙_}
+use mathlib.Core.Path.{_≡_, refl, sym, _∙_}
 use mathlib.Core.Bool.{Bool, true, false, not, _||_}
 use mathlib.Core.List.{List}
 use Prim.Native.Nat.{ℕ, _+_, _≤_, _<_}
@@ -8,11 +8,10 @@ use native.Mathlib.Omega.{arith}
 use borrow.Author.Tests.{ltb-true, ltb-false, le-ltb, leb-true, leb-false, eqb-true, ne-eqb, not-true, not-false}
 use lib.Dec.{eqb, leb, ltb}
 use Rattle.meaning.specs.Base.{if_then_else_, bit}
-use Rattle.meaning.specs.Reading.{Read, bad, got, Parser, _>>=_, pure, malformed, byteWithin, byte}
+use Rattle.meaning.specs.Reading.{bad, got, Parser, _>>=_, pure, malformed, byteWithin, byte}
 use Rattle.meaning.specs.Covers.{Source}
 use Rattle.meaning.specs.ByteLayouts.{column, sourceOf, source}
 use Rattle.words.specs.Words.{Peeked}
-use Rattle.words.specs.declared.End.the-variants.{At}
 use Rattle.words.proofs.Laws.{split, byte-within-yes, byte-within-low, byte-within-high}
 use Rattle.terms.specs.Terms.{sourceMeant, sourceFits}
 

@@ -1,23 +1,22 @@
 -- What is told of a run is what is printed of it: an accepted run's image can be read back from the bytes that it wrote, and an answer
 -- fixes the lines.
-use mathlib.Core.Path.{_≡_, refl, sym, ap, _∙_}
-use mathlib.Core.Bool.{true, false}
-use mathlib.Core.List.{List, [], _∷_, _++_, map}
-use mathlib.Core.Option.{Option, none, some}
+use mathlib.Core.Path.{_≡_, sym, ap, _∙_}
+use mathlib.Core.List.{List, [], _∷_}
+use mathlib.Core.Option.{none, some}
 use Prim.Native.Nat.{ℕ, _-_, _≤_, _<_}
 use native.Mathlib.Omega.{arith}
 use borrow.Author.Tests.{lt-ltb, le-ltb}
 use lib.ListN.{length, take, drop, length-drop}
 use lib.Seq.{take-append-seam, take-all}
-use Rattle.meaning.specs.Base.{inFrontOf, ascii}
+use Rattle.meaning.specs.Base.{ascii}
 use Rattle.meaning.specs.Reading.{readAll}
 use Rattle.meaning.specs.Covers.{Image, commit, rolledBack, stepLimit, failed}
 use Rattle.meaning.specs.Covers as Covers
 use Rattle.meaning.specs.ByteLayouts as ByteLayouts
 use Rattle.meaning.specs.ByteLayouts.{imageBytes}
 use Rattle.meaning.specs.Processing.{Ending}
-use Rattle.meaning.specs.EntryPoints.{Verdict, refused, accepted, refusedWith, ran, handedBack, verdict, answerOf, lines, runLines}
-use Rattle.meaning.specs.EntryPoints.{refusalLine, line, decimal, rowLines, refusalNumber, outcomeNumber, failureNumber, reasonNumber}
+use Rattle.meaning.specs.EntryPoints.{Verdict, refused, accepted, handedBack, verdict, answerOf, lines, runLines}
+use Rattle.meaning.specs.EntryPoints.{refusalLine, line, decimal, refusalNumber, outcomeNumber, failureNumber, reasonNumber}
 use Rattle.meaning.specs.EntryPoints.{run, resultOf, written, cleared, runOutput, workingRoom, mostInput, firstPart, verdictOn, printed}
 use Rattle.meaning.specs.Runs.{Accepted, endingOf, isRefused, isAccepted}
 use Rattle.meaning.proofs.WrittenRead.{written-read}
@@ -25,7 +24,7 @@ use Rattle.meaning.proofs.RunsFit.{run-sound, run-end-sound, run-limit}
 use Rattle.meaning.proofs.Theorems.{every-run, is-lawful}
 use Rattle.image.specs.Images.{imageOr}
 use Rattle.image.specs.declared.ImageRead.{ImageRead}
-use Rattle.image.specs.declared.ImageRead.the-variants.{Is, Bad}
+use Rattle.image.specs.declared.ImageRead.the-variants.{Bad}
 use Rattle.processing.specs.declared.Outcome.{Outcome}
 use Rattle.processing.specs.Endings.{outcomeMeant}
 use Rattle.engine.specs.declared.Answer.{Answer}

@@ -23,9 +23,8 @@ use Rattle.words.specs.Words.{Bytes, low32At}
 use Rattle.slots.specs.Slots.{Stands}
 use Rattle.room.specs.Room.{NEXT, LIVE, END, ROWS, Kept, liveRows}
 use Rattle.room.specs.Joins as Joins
-use Rattle.room.specs.Represents.{Represents}
+use Rattle.room.specs.Represents.{Represents, starting}
 use Rattle.room.proofs.Kept.{kept-trans}
-use Rattle.room.specs.Represents.{starting}
 use Rattle.plan.specs.declared.Plan.{Plan}
 use Rattle.plan.specs.Plans.{rulesIn, Planned}
 use Rattle.plan.proofs.Active.{own-within}

@@ -1,6 +1,6 @@
 // An accepted run, from the start image to the image that is handed back.
 ghost use mathlib.Core.Path.{_≡_};
-ghost use Prim.Native.Nat.{_+_, _≤_, _<_};
+ghost use Prim.Native.Nat.{_≤_};
 ghost use lib.ListN.{length};
 ghost use Rattle.meaning.specs.Base.{inFrontOf};
 ghost use Rattle.slots.specs.Slots.{Stands};

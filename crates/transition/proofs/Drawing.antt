@@ -19,7 +19,7 @@ use Rattle.slots.specs.declared.Slot.{Slot}
 use Rattle.slots.specs.Slots.{tableAt, tableBytes, Frame, Stands, Holds, Sorted, blank}
 use Rattle.slots.proofs.Frames.{frame-refl, frame-trans, frame-wider, frame-join, word-kept-above}
 use Rattle.slots.proofs.Tables.{table-length, table-kept-below, table-kept-above, stands-kept-below, stands-kept-above}
-use Rattle.room.specs.Room.{LIVE, INSERTED, DELETED, NEW, OLD, CHOSEN, WORKED, STRETCH, END, ROWS, ENTRIES, waitAt, Laid}
+use Rattle.room.specs.Room.{LIVE, INSERTED, DELETED, NEW, OLD, CHOSEN, WORKED, STRETCH, ROWS, ENTRIES, waitAt, Laid}
 use Rattle.room.specs.Room.{rowsMeant, entryMeant, waitMeant, liveRows, transitionIn, waitsIn}
 use Rattle.room.specs.Drawn.{drawnFor, Few, Drew}
 use Rattle.slots.proofs.Order.{strict}

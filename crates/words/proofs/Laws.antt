@@ -11,11 +11,10 @@ use borrow.Author.Tests.{le-leb, lt-leb, ltb-true, ltb-false}
 use lib.Dec.{leb, ltb}
 use lib.ListN.{length, getD, set, replicate, length-set, List·getD-eq-default}
 use lib.Seq.{sets, getD-set-same, getD-set-other}
-use Rattle.meaning.specs.Base.{if_then_else_}
+use Rattle.meaning.specs.Base.{if_then_else_, Each, noElement, anElement}
 use Rattle.meaning.specs.Reading.{Read, bad, got, Parser, onFrom, byteAt, byteWithin, byte, number16, number32, many}
 use Rattle.meaning.specs.ByteLayouts.{value}
 use Rattle.meaning.specs.Values.{signed}
-use Rattle.meaning.specs.Base.{Each, noElement, anElement}
 use Rattle.meaning.proofs.Parsing.{on-from-got, same-value, same-place}
 use Rattle.meaning.proofs.RunsFit.{Gives}
 use Rattle.words.specs.Words.{Bytes, word16At, word32At, low32At, lowBytes4, endOf, andMore, readable}

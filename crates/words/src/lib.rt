@@ -10,8 +10,7 @@ ghost use lib.ListN.{length};
 ghost use lib.Seq.{sets};
 ghost use Rattle.meaning.specs.Base.{bit};
 ghost use Rattle.meaning.specs.ByteLayouts.{bytes2, bytes4, comparison};
-ghost use Rattle.meaning.specs.Values.{signed};
-ghost use Rattle.meaning.specs.Values.{agree as Values·agree, compare as Values·compare, plus as Values·plus};
+ghost use Rattle.meaning.specs.Values.{signed, agree as Values·agree, compare as Values·compare, plus as Values·plus};
 ghost use Rattle.words.specs.Words.{word16At, word32At, low32At, lowBytes4, Peeked, sumMeant};
 
 // The word of a sum, or that it leaves 32 bits.

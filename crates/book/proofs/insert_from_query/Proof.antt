@@ -2,7 +2,6 @@
 use borrow.Author.Needs.{needs}
 use denote.Ref.{now}
 use mathlib.Core.Path.{sym, _∙_}
-use Prim.Native.Nat.{_+_}
 use Rattle.meaning.specs.ByteLayouts.{insertFromQuery, expression}
 use Rattle.meaning.specs.Reading.{many}
 use Rattle.words.proofs.Laws.{short-bad, ends-readable}

@@ -1,8 +1,6 @@
 -- What an operation of the log and an action of a rule do: all rows are chosen and all expressions worked out before a row changes; one
 -- that fails changes no row and ends the run.
-use mathlib.Core.Bool.{Bool, true, false}
 use mathlib.Core.List.{List, [], _∷_, _++_, map}
-use mathlib.Core.Option.{Option, none, some}
 use Prim.Native.Nat.{ℕ, suc, _+_}
 use lib.IntN.{ℤ}
 use lib.Dec.{ltb}

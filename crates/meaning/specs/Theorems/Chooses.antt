@@ -14,7 +14,7 @@ use Rattle.meaning.specs.Covers.{constant, columns, match, noMatch}
 use Rattle.meaning.specs.Processing.TransitionTables.{Transition, transition}
 use Rattle.meaning.specs.Processing.Queries.{cell, sourceRows, holds, chosen}
 use Rattle.meaning.specs.Trace.{Point, Consideration}
-use Rattle.meaning.specs.Runs.{Accepted, endingOf, rule, imageAfter}
+use Rattle.meaning.specs.Runs.{Accepted, endingOf, numbered, imageAfter}
 use Rattle.meaning.specs.Theorems.Shows.{RisesFrom}
 
 -- =, ≠, <, ≤, >, ≥
@@ -37,17 +37,17 @@ module _ (t : Transition) (rows : List Row) where
   Matched s ps x = (y : Row) × (y ∈ sourceRows t rows s) × AgreeOn ps x y
 
   -- what a term says of a row
-  abbrev pub Says : Row → Term → Type 0
-  Says x (constant k c v) = Compares k (cell x c) v
-  Says x (columns k c d) = Compares k (cell x c) (cell x d)
-  Says x (match s ps) = Matched s ps x
-  Says x (noMatch s ps) = ¬ Matched s ps x
+  abbrev pub TermSays : Row → Term → Type 0
+  TermSays x (constant k c v) = Compares k (cell x c) v
+  TermSays x (columns k c d) = Compares k (cell x c) (cell x d)
+  TermSays x (match s ps) = Matched s ps x
+  TermSays x (noMatch s ps) = ¬ Matched s ps x
 
   pub record Chooses : Type 0 where
     -- a term holds exactly when what it says is so: "Match holds if some row of the source agrees on all pairs; no match is its opposite"
-    pub term : (x : Row) (e : Term) → (holds t rows x e ≡ true) ↔ Says x e
+    pub term : (x : Row) (e : Term) → (holds t rows x e ≡ true) ↔ TermSays x e
     -- a query chooses exactly the rows of its source of which every term is so, in the source's order
-    pub yields : (q : Query) → Picks (λ x. Each (Says x) (q .terms)) (sourceRows t rows (q .source)) (chosen t rows q)
+    pub yields : (q : Query) → Picks (λ x. Each (TermSays x) (q .terms)) (sourceRows t rows (q .source)) (chosen t rows q)
     -- the sources: of a table 0..3 its live rows, and the transition tables
     pub tables : (n : ℕ) → Picks (λ x. x .table ≡ n) rows (sourceRows t rows (current n))
     pub ofInserted : sourceRows t rows inserted ≡ t .insertedRows
@@ -58,5 +58,5 @@ module _ (t : Transition) (rows : List Row) where
 -- "Rows are taken by rising handle": whatever the source, what is chosen rises, so each once, by the transition tables of a consideration
 -- and the rows that are live at any point of the run
 abbrev pub Rises : {image book log : List ℕ} → Accepted image book log → Type 0
-Rises a = (c : Consideration (endingOf a)) (r : Rule) → rule a (c .number) ≡ some r → (p : Point (endingOf a)) (q : Query)
+Rises a = (c : Consideration (endingOf a)) (r : Rule) → numbered a (c .number) ≡ some r → (p : Point (endingOf a)) (q : Query)
     → RisesFrom 0 (chosen (transition r (imageAfter a (c .before) .rows) (c .given)) (imageAfter a (p .before) .rows) q)

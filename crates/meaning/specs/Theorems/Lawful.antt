@@ -9,7 +9,7 @@ use Rattle.meaning.specs.Base.{firstWith}
 use Rattle.meaning.specs.Covers.{Rule, commit, stepLimit}
 use Rattle.meaning.specs.Processing.{Ending, runLog, considerRule}
 use Rattle.meaning.specs.Trace.{considerationsIn, Consideration, Makes}
-use Rattle.meaning.specs.Runs.{Accepted, endingOf, waitsFor, rule, isTriggered, imageAfter}
+use Rattle.meaning.specs.Runs.{Accepted, endingOf, waitsFor, numbered, isTriggered, imageAfter}
 
 module _ {image book log : List ℕ} (a : Accepted image book log) where
   pub record Lawful (e : Ending) : Type 0 where
@@ -20,7 +20,7 @@ module _ {image book log : List ℕ} (a : Accepted image book log) where
     -- it is given what waits for it: the net effect of exactly the operations since its last consideration, or since the start
     pub given : (c : Consideration e) → c .given ≡ waitsFor (c .number) (c .before)
     -- what follows is exactly what it makes, with what it is given, of the image as it is then
-    pub acts : (c : Consideration e) (r : Rule) → rule a (c .number) ≡ some r
+    pub acts : (c : Consideration e) (r : Rule) → numbered a (c .number) ≡ some r
         → Makes e (considerRule r (c .given) (imageAfter a (c .before))) (c .after)
     -- the run commits only if no rule is triggered
     pub commits : e .outcome ≡ commit → (k : ℕ) → isTriggered a (e .trace) k ≡ false

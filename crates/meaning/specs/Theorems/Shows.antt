@@ -11,7 +11,7 @@ use Rattle.meaning.specs.RowOperations.{NetEffect, inserted, deleted, up
 use Rattle.meaning.specs.Processing.{Event}
 use Rattle.meaning.specs.Processing.TransitionTables.{Transition, transition}
 use Rattle.meaning.specs.Trace.{operationsIn, sinceLast, Differs, Consideration}
-use Rattle.meaning.specs.Runs.{Accepted, endingOf, Live, rule, imageAfter}
+use Rattle.meaning.specs.Runs.{Accepted, endingOf, Live, numbered, imageAfter}
 
 -- the mask meets the rule's columns: a column is in both
 abbrev pub Meets : Rule → ℕ → Type 0
@@ -43,7 +43,7 @@ pub record ShowsRows (r : Rule) (given : NetEffect) (rows : List Row) (t : Trans
 module _ {image book log : List ℕ} (a : Accepted image book log) where
   pub record Shows : Type 0 where
     -- at each consideration the rule is shown this, of what it is given and of the rows that are live then
-    pub rows : (c : Consideration (endingOf a)) (r : Rule) → rule a (c .number) ≡ some r
+    pub rows : (c : Consideration (endingOf a)) (r : Rule) → numbered a (c .number) ≡ some r
         → let live = imageAfter a (c .before) .rows in ShowsRows r (c .given) live (transition r live (c .given))
     -- what it is given says how they differ from the rows at the point since which it waited: an old row is the live row of that point
     pub since : (c : Consideration (endingOf a)) (past stretch : List Event) → c .before ≡ past ++ stretch

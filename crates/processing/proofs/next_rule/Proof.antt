@@ -1,6 +1,5 @@
 -- `processing::next_rule` meets its contract: once what was done joined what waits, all is settled, and the rule that is found is the first
 -- triggered one.
-use borrow.Author.Needs.{needs}
 use Rattle.processing.proofs.Looking.{midway-settleable, looks}
 use Rattle.processing.proofs.next_rule.Statement.{statement}
 use Rattle.processing.proofs.next_rule.Tie as tie

@@ -1,6 +1,5 @@
 -- `text::put_answer` meets its contract: a refusal has its line, and a run its lines.
 use borrow.Author.Needs.{needs}
-use denote.Ref.{now}
 use Rattle.text.proofs.Told.{refused-lines, refusal-small}
 use Rattle.text.proofs.put_answer.Statement.{statement}
 use Rattle.text.proofs.put_answer.Tie as tie

@@ -1,7 +1,5 @@
 -- `text::put_ran` meets its contract: the image that a run wrote is at the front of the output, can be read back, and is printed.
 use borrow.Author.Needs.{needs}
-use denote.Ref.{now}
-use native.Mathlib.Omega.{arith}
 use Rattle.processing.specs.Endings.{outcomeMeant}
 use Rattle.text.proofs.Told.{ran-lines, count-small, not-bad, outcome-small, reason-small}
 use Rattle.text.proofs.put_ran.Statement.{statement}
