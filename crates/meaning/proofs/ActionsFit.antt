@@ -11,7 +11,7 @@ use lib.Signed.{mag}
 use lib.Dec.{eqb, ltb, leb}
 use lib.ListN.{length, getD, length-append}
 use borrow.Author.Tests.{ltb-false, leb-true, ne-eqb}
-use Rattle.meaning.specs.Base.{if_then_else_, maybe, bit, select, both, eachOr, Each, noElement, anElement}
+use Rattle.meaning.specs.Base.{if_then_else_, bit, select, both, eachOr, Each, noElement, anElement}
 use Rattle.meaning.specs.Values.{inRange, plus}
 use Rattle.meaning.specs.Covers.{mostRows, lastHandle, Row, Image, Source, Term, Query, Expression, Action, LogOperation, Outcome}
 use Rattle.meaning.specs.Covers.{Reason, rolledBack, failed, current, inserted, deleted, newUpdated, oldUpdated, fixed}
@@ -25,7 +25,7 @@ use Rattle.meaning.specs.Processing.Actions.{updatedRow, updatesOf, upda
 use Rattle.meaning.specs.Trace.{OnlyIn}
 use Rattle.meaning.specs.Made.{InRange, Proper, Rising, noRow, above, Sound, insertFits, deleteFits, updateFits, Made, Taken, noneTaken, oneTaken}
 use Rattle.meaning.specs.Made as Of
-use Rattle.meaning.proofs.Lists.{clash, same-some, each-select, eqb-self}
+use Rattle.meaning.proofs.Lists.{clash, same-some, each-select, eqb-self, if-so, maybe-so}
 use Rattle.meaning.proofs.Lookups.{rowAt-head, rowAt-skip, found-so, found-handle, rowAt-without-other, rowAt-withRow-other}
 use Rattle.meaning.proofs.Lookups.{made-append}
 use Rattle.meaning.proofs.Images.{rising-proper, makeAll-sound}
@@ -77,15 +77,6 @@ pub fails-made : {m : Image} (r : Reason) → MadeOf m (fails r)
 unfolding fails
 fails-made r = endsMade byFailure Of.none
 
-pub if-made : {m : Image} {x y : Result} (b : Bool) → (b ≡ true → MadeOf m x) → (b ≡ false → MadeOf m y) → MadeOf m (if b then x else y)
-if-made true p q = p refl
-if-made false p q = q refl
-
-pub maybe-made : {A : Type 0} {m : Image} {d : Result} {f : A → Result} (o : Option A) → MadeOf m d
-    → ((a : A) → o ≡ some a → MadeOf m (f a)) → MadeOf m (maybe o d f)
-maybe-made none p q = p
-maybe-made (some a) p q = q a refl
-
 following-made : {m : Image} {os : List RowOperation} {r : Result} → Made m os → MadeOf (makeAll os m) r → MadeOf m (following os r)
 unfolding following
 following-made g (wentMade h) = wentMade (made-append g h)
@@ -113,8 +104,8 @@ inserts-made t (vs ∷ vss) m l (anElement f fs) room left =
 pub insertAll-made : (t : ℕ) (vss : List (List ℤ)) (m : Image) → t ≤ 3 → Each Four vss → MadeOf m (insertAll t vss m)
 unfolding insertAll
 insertAll-made t vss m l fs =
-    if-made (ltb mostRows (length (m .rows) + length vss)) (λ e. fails-made full) (λ room.
-    if-made (ltb lastHandle (m .next + length vss)) (λ e. fails-made handlesUsedUp) (λ left.
+    if-so (MadeOf m) (ltb mostRows (length (m .rows) + length vss)) (λ e. fails-made full) (λ room.
+    if-so (MadeOf m) (ltb lastHandle (m .next + length vss)) (λ e. fails-made handlesUsedUp) (λ left.
     wentMade (inserts-made t vss m l fs (ltb-false _ _ room) (ltb-false _ _ left))))
 
 -- ---- Rows that are taken from an image: proper, live, by rising handle
@@ -265,9 +256,9 @@ pub operate-made : (q : LogOperation) (m : Image) → GoodOperation q → Sound 
 unfolding operate
 operate-made (insert t vs) m (goodInsert l f) s = insertAll-made t (vs ∷ []) m l (anElement f noElement)
 operate-made (delete h) m goodDelete s =
-    maybe-made (rowAt h (m .rows)) (fails-made noSuchRow) (λ r e. deleteAll-made (r ∷ []) m (one-taken m h r s e))
+    maybe-so (MadeOf m) (rowAt h (m .rows)) (λ e. fails-made noSuchRow) (λ r e. deleteAll-made (r ∷ []) m (one-taken m h r s e))
 operate-made (update h mask vs) m (goodUpdate i f) s =
-    maybe-made (rowAt h (m .rows)) (fails-made noSuchRow)
+    maybe-so (MadeOf m) (rowAt h (m .rows)) (λ e. fails-made noSuchRow)
     (λ r e. updateAll-made mask (r ∷ []) (vs ∷ []) m (one-taken m h r s e) (anElement f noElement))
 
 -- ---- Expressions
@@ -359,7 +350,7 @@ unfolding perform
 perform-made t rollback m p goodRollback s = endsMade byRollback Of.none
 perform-made t (insertRow n vs) m p (goodInsertRow l f) s = insertAll-made n (vs ∷ []) m l (anElement f noElement)
 perform-made t (insertFromQuery n q es) m p (goodInsertFrom l k g) s =
-    maybe-made (eachOr (workOutAll es) (chosen t (m .rows) q)) (fails-made sumOutOfRange) (λ vss e.
+    maybe-so (MadeOf m) (eachOr (workOutAll es) (chosen t (m .rows) q)) (λ e. fails-made sumOutOfRange) (λ vss e.
     insertAll-made n vss m l
     (each-result {Q = Four} (workOutAll es) vss
     (λ r vs f d. let w = workOutAll-range es r vs f g d in record { four = w .0 ∙ k; ranged = w .1 })
@@ -367,7 +358,7 @@ perform-made t (insertFromQuery n q es) m p (goodInsertFrom l k g) s =
 perform-made t (deleteRows n ts) m p goodDeleteRows s = deleteAll-made (chosen t (m .rows) (rowsOf n ts)) m (chosen-taken t m n ts s)
 perform-made t (updateRows n mask es ts) m p (goodUpdateRows i g) s =
     let rs = chosen t (m .rows) (rowsOf n ts) in
-    maybe-made (eachOr (workOutAll es) rs) (fails-made sumOutOfRange) (λ vss e.
+    maybe-so (MadeOf m) (eachOr (workOutAll es) rs) (λ e. fails-made sumOutOfRange) (λ vss e.
     updateAll-made mask rs vss m (chosen-taken t m n ts s)
     (each-result {Q = InRange} (workOutAll es) vss (λ r vs f d. workOutAll-range es r vs f g d .1)
     (chosen-ranged t m (rowsOf n ts) p s) e .1))

@@ -32,14 +32,14 @@ module _ {image book log : List ℕ} (a : Accepted image book log) (e : Ending) 
     pub acts : (r : Rule) → numbered a k ≡ some r → Makes e (considerRule r given (imageAfter a past)) after
 
   -- of the end, with this outcome
-  abbrev Due : List Event → Outcome → Type 0
-  Due past commit = (k : ℕ) → isTriggered a past k ≡ false
-  Due past stepLimit = ((k : ℕ) × (isTriggered a past k ≡ true)) × (e .count ≡ a .ruleBook .limit)
-  Due past rolledBack = Unit {0}
-  Due past (failed r) = Unit {0}
+  abbrev EndDue : List Event → Outcome → Type 0
+  EndDue past commit = (k : ℕ) → isTriggered a past k ≡ false
+  EndDue past stepLimit = ((k : ℕ) × (isTriggered a past k ≡ true)) × (e .count ≡ a .ruleBook .limit)
+  EndDue past rolledBack = Unit {0}
+  EndDue past (failed r) = Unit {0}
 
   record End (past : List Event) : Type 0 where
-    pub due : Due past (e .outcome)
+    pub due : EndDue past (e .outcome)
     pub within : e .count ≤ a .ruleBook .limit
     pub counted : e .count ≡ considerationsIn past
 
@@ -69,7 +69,7 @@ module _ {image book log : List ℕ} (a : Accepted image book log) (e : Ending) 
 
   -- ---- The steps
 
-  broken : (past : List Event) {o : Outcome} → Breaks o → Due past o
+  broken : (past : List Event) {o : Outcome} → Breaks o → EndDue past o
   broken past byRollback = tt
   broken past byFailure = tt
 
@@ -104,21 +104,21 @@ module _ {image book log : List ℕ} (a : Accepted image book log) (e : Ending) 
   unfolding ended afterEvents
   steps-along {past} (commits t) h o n =
       record {
-        due = subst (Due past) (sym o) (λ k. none-triggered a past k (sym (search-is a h) ∙ t));
+        due = subst (EndDue past) (sym o) (λ k. none-triggered a past k (sym (search-is a h) ∙ t));
         within = omega (arith, h .allowed);
         counted = n ∙ h .counts;
       }
   steps-along {past} (meetsLimit {k = k} t) h o n =
       let found = first-is (isTriggered a past) (a .order) k (sym (search-is a h) ∙ t) in
       record {
-        due = subst (Due past) (sym o) ((k, found .passes), omega (arith, h .allowed));
+        due = subst (EndDue past) (sym o) ((k, found .passes), omega (arith, h .allowed));
         within = omega (arith, h .allowed);
         counted = n ∙ h .counts;
       }
   steps-along {past} (endsRun {k = k} {s = s} {new = new} t c) h o n =
       let breaks = consider-ends (a .ruleBook .rules) (a .order) (a .start) (run-rules a) (run-sound a) (h .built) k c .0 in
       let end : End (past ++ consideration (a .ruleBook .rules) s k new) =
-      record { due = subst (Due _) (sym o) (broken _ breaks); within = omega (arith, h .allowed); counted = n ∙ one-more a h k new } in
+      record { due = subst (EndDue _) (sym o) (broken _ breaks); within = omega (arith, h .allowed); counted = n ∙ one-more a h k new } in
       rw append-nil at (along-considered h new [] (turn-now h t (rw (c, append-nil) (refl, o))) end)
   steps-along (goesOn {new = new} {e = f} t c more) h o n =
       along-considered h new (f .trace) (turn-now h t (rw c (f .trace, refl, steps-rest more o)))
@@ -131,7 +131,7 @@ module _ {image book log : List ℕ} (a : Accepted image book log) (e : Ending) 
   runs-along (logEnds {new = new} l) o n =
       let breaks = log-ends (a .ruleBook .rules) (a .order) (a .start) (run-rules a) (run-sound a) (run-log a) l .0 in
       let end : End (map made new) =
-      record { due = subst (Due _) (sym o) (broken _ breaks); within = omega arith; counted = n ∙ rw (considerations-made new) } in
+      record { due = subst (EndDue _) (sym o) (broken _ breaks); within = omega arith; counted = n ∙ rw (considerations-made new) } in
       (rw l (refl, o), rw append-nil at (along-made new [] [] end))
   runs-along (logDone {new = new} {e = f} l more) o n =
       (rw l (f .trace, refl, steps-rest more o), along-made new [] (f .trace) (steps-along more (state-log a l) o n))
@@ -148,8 +148,8 @@ module _ {image book log : List ℕ} (a : Accepted image book log) where
   at-end : End a (endingOf a) (endingOf a .trace)
   at-end = end-at a (endingOf a) (endingOf a .trace) [] (sentences .1)
 
-  due-at : {o : Outcome} → endingOf a .outcome ≡ o → Due a (endingOf a) (endingOf a .trace) o
-  due-at q = subst (Due a (endingOf a) (endingOf a .trace)) q (at-end .due)
+  due-at : {o : Outcome} → endingOf a .outcome ≡ o → EndDue a (endingOf a) (endingOf a .trace) o
+  due-at q = subst (EndDue a (endingOf a) (endingOf a .trace)) q (at-end .due)
 
   pub is-lawful : Lawful a (endingOf a)
   unfolding imageAfter

@@ -60,6 +60,18 @@ pub some-passes : {A : Type 0} (p : A → Bool) (o : Option A) → maybe o false
 some-passes p none h = true-is-false h refl
 some-passes p (some x) h = (x, refl)
 
+-- ---- What is so of both results of a test is so of the result
+
+module _ {A : Type 0} (P : A → Type 0) where
+  pub if-so : {x y : A} (b : Bool) → (b ≡ true → P x) → (b ≡ false → P y) → P (if b then x else y)
+  if-so true p q = p refl
+  if-so false p q = q refl
+
+  pub maybe-so : {B : Type 0} {d : A} {f : B → A} (o : Option B) → (o ≡ none → P d) → ((x : B) → o ≡ some x → P (f x))
+      → P (maybe o d f)
+  maybe-so none p q = p refl
+  maybe-so (some x) p q = q x refl
+
 -- ---- Lists of which each element is so
 
 module _ {A : Type 0} {P : A → Type 0} where

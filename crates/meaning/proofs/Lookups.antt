@@ -2,6 +2,7 @@
 -- handle. In a sound image each handle has one row at most and none from the next handle on, so inserts are given new handles, rising.
 use mathlib.Core.Path.{_≡_, refl, sym, ap, _∙_, subst}
 use mathlib.Core.Bool.{Bool, true, false}
+use mathlib.Core.Logic.{_≢_}
 use mathlib.Core.List.{List, [], _∷_, _++_, append-assoc}
 use mathlib.Core.Option.{Option, none, some}
 use Prim.Native.Nat.{ℕ, _≤_, _<_}
@@ -28,6 +29,15 @@ look h x xs o q = go (eqb (x .handle) h) refl
     go : (b : Bool) → eqb (x .handle) h ≡ b → Look h x xs o
     go true e = head (eqb-true (x .handle) h e) (sym (rw e at q))
     go false e = later e (rw e at q)
+
+-- where none is found, no row has the handle
+pub row-none : (h : ℕ) (rs : List Row) → rowAt h rs ≡ none → Each (λ x. x .handle ≢ h) rs
+row-none h [] q = noElement
+row-none h (x ∷ xs) q = go (look h x xs none q) (row-none h xs)
+  where
+    go : Look h x xs none → (rowAt h xs ≡ none → Each (λ y. y .handle ≢ h) xs) → Each (λ y. y .handle ≢ h) (x ∷ xs)
+    go (head e o) ih = clash refl o
+    go (later e o) ih = anElement (eqb-false (x .handle) h e) (ih o)
 
 pub rowAt-none : (h : ℕ) → rowAt h [] ≡ none
 unfolding rowAt

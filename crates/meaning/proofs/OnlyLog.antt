@@ -1,15 +1,13 @@
 -- No action of a rule ends a run with reason 1, so a run that ends with it ends in its log.
 use mathlib.Core.Path.{_≡_, refl}
 use mathlib.Core.Logic.{_≢_}
-use mathlib.Core.Bool.{Bool, true, false}
 use mathlib.Core.List.{List, [], _∷_}
-use mathlib.Core.Option.{Option, none, some}
 use Prim.Native.Nat.{ℕ, _+_}
 use native.Mathlib.Omega.{arith}
 use lib.IntN.{ℤ}
 use lib.Dec.{ltb}
 use lib.ListN.{length, getElem?}
-use Rattle.meaning.specs.Base.{if_then_else_, maybe, eachOr}
+use Rattle.meaning.specs.Base.{eachOr}
 use Rattle.meaning.specs.Covers.{mostRows, lastHandle, Image, Rule, Action, LogOperation, Outcome, rolledBack, failed, noSuchRow}
 use Rattle.meaning.specs.Covers.{rollback, insertRow, insertFromQuery, deleteRows, updateRows}
 use Rattle.meaning.specs.RowOperations.{RowOperation, makeAll}
@@ -21,20 +19,9 @@ use Rattle.meaning.specs.Processing.Actions.{Result, went, ends, followi
 use Rattle.meaning.specs.Processing.Actions.{rowsOf, perform}
 use Rattle.meaning.specs.EntryPoints.{failureNumber, reasonNumber}
 use Rattle.meaning.specs.Runs.{Accepted, endingOf}
+use Rattle.meaning.proofs.Lists.{if-so, maybe-so}
 use Rattle.meaning.proofs.Traces.{Steps, commits, meetsLimit, endsRun, goesOn, Runs, logEnds, logDone}
 use Rattle.meaning.proofs.RunsFit.{run-steps}
-
--- ---- What is so of both results of a test is so of the result
-
-module _ (P : Result → Type 0) where
-  pub if-so : {x y : Result} (b : Bool) → (b ≡ true → P x) → (b ≡ false → P y) → P (if b then x else y)
-  if-so true p q = p refl
-  if-so false p q = q refl
-
-  pub maybe-so : {A : Type 0} {d : Result} {f : A → Result} (o : Option A) → (o ≡ none → P d) → ((x : A) → o ≡ some x → P (f x))
-      → P (maybe o d f)
-  maybe-so none p q = p refl
-  maybe-so (some x) p q = q x refl
 
 -- ---- Actions and considerations
 

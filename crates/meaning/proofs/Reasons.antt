@@ -10,8 +10,8 @@ use lib.IntN.{ℤ, pos, negsuc, _+ℤ_}
 use lib.Signed.{mag}
 use lib.Dec.{ltb, leb}
 use lib.ListN.{length}
-use borrow.Author.Tests.{ltb-true, ltb-false, leb-false, eqb-false, lt-leb}
-use Rattle.meaning.specs.Base.{if_then_else_, maybe, both, eachOr, _∈_, first, later, Each, noElement, anElement}
+use borrow.Author.Tests.{ltb-true, ltb-false, leb-false, lt-leb}
+use Rattle.meaning.specs.Base.{if_then_else_, maybe, both, eachOr, _∈_, first, later}
 use Rattle.meaning.specs.Values.{inRange, plus}
 use Rattle.meaning.specs.Covers.{mostRows, lastHandle, Row, Image, Expression, Action, LogOperation, Reason, rolledBack, failed}
 use Rattle.meaning.specs.Covers.{fixed, column, sum, rollback, insertRow, insertFromQuery, deleteRows, updateRows}
@@ -25,10 +25,10 @@ use Rattle.meaning.specs.Made.{Sound}
 use Rattle.meaning.specs.Runs.{Accepted, imageAfter}
 use Rattle.meaning.specs.Theorems.Reasons.{Leaves32, SumLeaves, Stops, SomeStops, NoRow, TooMany, UsedUp, Due}
 use Rattle.meaning.specs.Theorems.Reasons.{DueInLog, DueInAction, FailsWhen, Reasons}
-use Rattle.meaning.proofs.Lists.{clash}
+use Rattle.meaning.proofs.Lists.{clash, if-so, maybe-so}
 use Rattle.meaning.proofs.Admitted.{admitted}
-use Rattle.meaning.proofs.OnlyLog.{if-so, maybe-so, only-log}
-use Rattle.meaning.proofs.Lookups.{Look, head, later as further, look, found-handle, found-so}
+use Rattle.meaning.proofs.OnlyLog.{only-log}
+use Rattle.meaning.proofs.Lookups.{found-handle, found-so, row-none}
 
 -- ---- Sums
 
@@ -163,14 +163,6 @@ insert-way {S} t vss m noSum =
     (λ d. going (none-due m n (λ b. b) noSum (fit e) (fit d))))
 
 -- ---- Lookups
-
-row-none : (h : ℕ) (rs : List Row) → rowAt h rs ≡ none → Each (λ x. x .handle ≢ h) rs
-row-none h [] q = noElement
-row-none h (x ∷ xs) q = go (look h x xs none q) (row-none h xs)
-  where
-    go : Look h x xs none → (rowAt h xs ≡ none → Each (λ y. y .handle ≢ h) xs) → Each (λ y. y .handle ≢ h) (x ∷ xs)
-    go (head e o) ih = clash refl o
-    go (further e o) ih = anElement (eqb-false (x .handle) h e) (ih o)
 
 -- ---- Rows that are worked out, or of which one stops it
 

@@ -90,7 +90,7 @@ values-give n = reads-give (values-read n)
 pub table-gives : Gives ByteLayouts.table (λ t. (0 ≤ t) × (t ≤ 3))
 table-gives = reads-give table-reads
 
-mask-gives : Gives ByteLayouts.mask IsMask
+pub mask-gives : Gives ByteLayouts.mask IsMask
 unfolding ByteLayouts.mask
 mask-gives = reads-give (byte-reads (omega arith))
 

@@ -20,12 +20,12 @@ use Rattle.meaning.specs.Processing.Actions.{went, ends}
 use Rattle.meaning.specs.Trace.{operationsIn}
 use Rattle.meaning.specs.Made.{Proper, Sound, deleteFits, updateFits, Made}
 use Rattle.meaning.specs.Made as Of
-use Rattle.meaning.proofs.Lists.{clash, same-some, each-drop, each-element}
+use Rattle.meaning.proofs.Lists.{clash, same-some, each-drop, each-element, if-so}
 use Rattle.meaning.proofs.Lookups.{found-so, makeAll-append, made-append}
 use Rattle.meaning.proofs.Images.{rising-proper, make-sound, makeAll-sound}
 use Rattle.meaning.proofs.Traces.{operations-append, operations-made, Steps, commits, meetsLimit, endsRun, goesOn, Runs, logEnds}
 use Rattle.meaning.proofs.Traces.{logDone}
-use Rattle.meaning.proofs.ActionsFit.{GoodOperation, GoodAction, Breaks, MadeOf, wentMade, endsMade, if-made, andThen-made}
+use Rattle.meaning.proofs.ActionsFit.{GoodOperation, GoodAction, Breaks, MadeOf, wentMade, endsMade, andThen-made}
 use Rattle.meaning.proofs.ActionsFit.{operate-made, perform-made, proper-ranged, RangedTables}
 
 -- ---- The rows of effects
@@ -194,7 +194,7 @@ unfolding considerRule considerWith
 considerRule-made r given m g f s =
     let t = transition r (m .rows) given in
     let p = transition-ranged r (m .rows) (rising-proper (s .rises)) given f in
-    if-made (conditionHolds t (m .rows) (r .condition)) (λ e. runActions-made t (r .actions) m p (g .actionsGood) s) (λ e. wentMade Of.none)
+    if-so (MadeOf m) (conditionHolds t (m .rows) (r .condition)) (λ e. runActions-made t (r .actions) m p (g .actionsGood) s) (λ e. wentMade Of.none)
 
 -- a rule of the book is considered with what waits for it, on the image as it is
 pub considers : (rules : List Rule) (s : State) (k : ℕ) (r : Rule) → getElem? rules k ≡ some r

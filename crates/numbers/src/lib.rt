@@ -8,6 +8,9 @@ use changes::Reason;
 use engine::Refusal;
 use processing::Outcome;
 
+// Refusal 7, input too long: only the program gives it.
+pub const INPUT_TOO_LONG: usize = 7;
+
 pub fn refusal(r: Refusal) -> usize
     ensures { λ n. ⌜ n ≡ refusalNumber (refusalMeant r) ⌝ }
 {

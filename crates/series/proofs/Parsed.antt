@@ -2,15 +2,13 @@
 -- admits nothing else.
 use mathlib.Core.Path.{_≡_}
 use mathlib.Core.List.{List}
-use Prim.Native.Nat.{ℕ, _≤_}
-use native.Mathlib.Omega.{arith}
+use Prim.Native.Nat.{ℕ}
 use lib.Dec.{eqb}
 use lib.Count.{ones}
 use Rattle.meaning.specs.Reading.{bad, got, byte, number32}
 use Rattle.meaning.specs.ByteLayouts as ByteLayouts
-use Rattle.meaning.specs.ByteLayouts.{mask, terms, query, operation, action}
-use Rattle.meaning.proofs.Parsing.{byte-reads}
-use Rattle.meaning.proofs.RunsFit.{Gives, reads-give, bind-gives, past-gives, pure-gives, malformed-gives, if-gives, many-gives}
+use Rattle.meaning.specs.ByteLayouts.{terms, query, operation, action}
+use Rattle.meaning.proofs.RunsFit.{Gives, bind-gives, past-gives, pure-gives, malformed-gives, if-gives, many-gives, mask-gives}
 use Rattle.meaning.proofs.RunsFit.{values-give, table-gives, expression-gives}
 use Rattle.log.specs.declared.Operation.{Operation}
 use Rattle.log.specs.declared.OperationRead.{OperationRead}
@@ -22,10 +20,6 @@ use Rattle.book.specs.declared.ActionRead.the-variants as actionRead
 use Rattle.book.specs.Books.{actionMeant, actionOr}
 use Rattle.action.specs.Fit.{FitOperation, insertFits, deleteFits, updateFits, FitAction, rollbackFits, insertRowFits, insertFromQueryFits}
 use Rattle.action.specs.Fit.{deleteRowsFits, updateRowsFits}
-
-mask-gives : Gives mask (λ m. (1 ≤ m) × (m ≤ 15))
-unfolding mask
-mask-gives = reads-give (byte-reads {lo = 1} {hi = 15} (omega arith))
 
 -- ---- An operation of the log
 

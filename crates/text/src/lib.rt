@@ -13,9 +13,6 @@ use processing::Outcome;
 // An input has at most 16,384 bytes.
 pub const INPUT: usize = 16384;
 
-// Only the program gives this refusal.
-const TOO_LONG: usize = 7;
-
 // Where the part at the front ends: after as many bytes as its length counts, or with all that is left.
 fn part_end(s: &[u8]) -> usize
     ensures { λ r. ⌜ r ≡ firstPart (now (s .entry)) ⌝ }
@@ -75,7 +72,7 @@ pub fn text(input: &[u8], image: &mut [u8], room: &mut [u8], out: &mut [u8]) -> 
         (now (out .entry)) (now (out .exit)) r ⌝ }
 {
     if INPUT < input.len() {
-        return lines::put_refused(out, TOO_LONG);
+        return lines::put_refused(out, numbers::INPUT_TOO_LONG);
     }
     let a = part_end(input);
     let more = &input[a..];

@@ -18,7 +18,6 @@ use Rattle.meaning.specs.ByteLayouts.{imageBytes}
 use Rattle.meaning.specs.EntryPoints.{handedBack}
 use Rattle.meaning.specs.Processing.{Ending}
 use Rattle.meaning.proofs.RoundTrip.{image-sound, round-trip}
-use Rattle.meaning.proofs.WrittenRead.{image-fits}
 use Rattle.words.specs.Words.{Bytes, low32At}
 use Rattle.slots.specs.Slots.{Stands}
 use Rattle.room.specs.Room.{NEXT, LIVE, END, ROWS, Kept, liveRows}
@@ -124,7 +123,3 @@ module _ {image book : List ℕ} {a : ReadOff} (ok : Accepts image book a) where
                 record { outcome = ended .outcome; count = ended .count; output = out ∙ ap (λ (l : List ℕ). inFrontOf l before) same };
             cleared = cleared-rest same-beyond 65536 (omega arith) clear;
           }
-
--- a well-formed image fits the output
-pub image-short : {image book : List ℕ} {a : ReadOff} → Accepts image book a → length image ≤ 1355
-image-short {image} ok = omega (arith, image-fits (image-sound image _ (ok .rows .image)), ap length (round-trip image _ (ok .rows .image)))

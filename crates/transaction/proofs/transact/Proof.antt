@@ -1,7 +1,8 @@
 -- `transaction::transact` meets its contract: a loaded room starts the run, a processed one holds its end, and a cleared one is the room at
 -- entry past the bytes that a run is lent.
 use borrow.Author.Needs.{needs}
-use Rattle.transaction.proofs.Runs.{starts, live-stands, transacts, image-short}
+use Rattle.meaning.proofs.Lengths.{image-length}
+use Rattle.transaction.proofs.Runs.{starts, live-stands, transacts}
 use Rattle.transaction.proofs.transact.Statement.{statement}
 use Rattle.transaction.proofs.transact.Tie as tie
 
@@ -20,7 +21,7 @@ hand-back-requires c κs =
     let start = load .before .before .before .before .before .before .before in
     let ok = start .pre .0 in (
       live-stands ok (load .load .ensures) (λ k. known .slice-known3 .given k .fits) (process .process .ensures),
-      (start .pre .1 .0, image-short ok),
+      (start .pre .1 .0, image-length _ _ (ok .rows .image)),
     )
 
 returns : tie.Need-returns
