@@ -1,4 +1,5 @@
--- The table of kinds has four lines of four: within them the number of an absent element does not matter, and past them that is all there is.
+-- The table of kinds has four lines of four: within them the number of an absent element does not matter, and past them that is all
+-- there is.
 use mathlib.Core.Path.{_≡_, refl, sym}
 use mathlib.Core.List.{[]}
 use Prim.Native.Nat.{ℕ, zero, suc, _≤_, _<_}

@@ -23,7 +23,8 @@ use Rattle.meaning.specs.Processing.Queries.{cell, sourceRows, allHold, 
 use Rattle.meaning.specs.Processing.Actions.{Result, went, ends, following, andThen, fails, newRows, insertAll, deleteAll, masked}
 use Rattle.meaning.specs.Processing.Actions.{updatedRow, updatesOf, updateAll, operate, rowsOf, perform}
 use Rattle.meaning.specs.Trace.{OnlyIn}
-use Rattle.meaning.specs.Made.{InRange, Proper, Rising, noRow, above, Sound, insertFits, deleteFits, updateFits, Made, Taken, noneTaken, oneTaken}
+use Rattle.meaning.specs.Made.{InRange, Proper, Rising, noRow, above, Sound}
+use Rattle.meaning.specs.Made.{insertFits, deleteFits, updateFits, Made, Taken, noneTaken, oneTaken}
 use Rattle.meaning.specs.Made as Of
 use Rattle.meaning.proofs.Lists.{clash, same-some, each-select, eqb-self, if-so, maybe-so}
 use Rattle.meaning.proofs.Lookups.{rowAt-head, rowAt-skip, found-so, found-handle, rowAt-without-other, rowAt-withRow-other}

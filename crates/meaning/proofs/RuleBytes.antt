@@ -5,7 +5,7 @@ use mathlib.Core.Logic.{_↔_, _⊎_, inl, inr}
 use mathlib.Core.Bool.{Bool, true, false}
 use mathlib.Core.List.{List, [], _∷_}
 use mathlib.Core.Option.{some}
-use Prim.Native.Nat.{ℕ, zero, suc, _+_, _-_, _<_}
+use Prim.Native.Nat.{ℕ, zero, suc, _+_, _-_, _≤_, _<_}
 use native.Mathlib.Omega.{arith}
 use lib.Dec.{ltb}
 use lib.ListN.{length, take, drop, length-take, length-drop}
@@ -19,11 +19,11 @@ use Rattle.meaning.specs.EntryPoints.{acceptedBook, judgeBook, firstRule
 use Rattle.meaning.specs.Theorems.Refusals.{Malformed, HasCycle, NoRule}
 use Rattle.meaning.proofs.Lists.{clash, same-some}
 use Rattle.meaning.proofs.Parsing.{on-from-got, same-value, must-got, read-all, framed-got, if-got, within-true, inside, many-each}
-use Rattle.meaning.proofs.Takes.{number16-takes, byte-takes, rule-takes, bookFields}
+use Rattle.meaning.proofs.Takes.{number16-takes, byte-takes, within-gives, rule-takes, bookFields}
 use Rattle.meaning.proofs.Refusals.{Judged, unread, cyclic, fine, judged}
 
 -- where many were read, those before the next and the next were
-one-of : {A X : Type 0} (p : Parser A) (s : List ℕ) (k n at : ℕ) {xs : List A} {next : ℕ} → k < n → many n p s at ≡ got xs next
+pub one-of : {A X : Type 0} (p : Parser A) (s : List ℕ) (k n at : ℕ) {xs : List A} {next : ℕ} → k < n → many n p s at ≡ got xs next
     → ((ys : List A) (from : ℕ) (x : A) (end : ℕ) → many k p s at ≡ got ys from → p s from ≡ got x end → X) → X
 unfolding many
 one-of p s k zero at l e on = absurd (omega arith)
@@ -33,9 +33,10 @@ one-of p s (suc k) (suc n) at l e on =
     on-from-got (many n p s mid) _ rest (λ xs next two same.
     one-of p s k n mid (omega arith) two (λ ys from y end before here. on (x ∷ ys) from y end (rw (one, before)) here)))
 
--- the rules of a book that is read
-rules-read : (s : List ℕ) (b : Book) → readAll ByteLayouts.book s ≡ some b
-    → (next : ℕ) × (many (length (b .rules)) (ByteLayouts.rule (length (b .rules))) s firstRule ≡ got (b .rules) next)
+-- the rules of a book that is read are at most 16, and stand one after another
+pub rules-read : (s : List ℕ) (b : Book) → readAll ByteLayouts.book s ≡ some b
+    → (length (b .rules) ≤ mostRules)
+    × (next : ℕ) × (many (length (b .rules)) (ByteLayouts.rule (length (b .rules))) s firstRule ≡ got (b .rules) next)
 unfolding ByteLayouts.book bookFields
 rules-read s b e =
     on-from-got (number16 s 5) _ (framed-got bookFields s 0 (read-all (framed bookFields) s e .1) .body) (λ l mid1 one rest1.
@@ -45,10 +46,11 @@ rules-read s b e =
     let p1 = number16-takes .took one in
     let p2 = must-got (within 1 mostSteps l) s mid1 two in
     let p3 = byte-takes 0 mostRules .took three in
+    let few = within-gives 0 mostRules (omega arith) .fit three in
     let at : mid3 ≡ firstRule = omega arith in
     let c : length rs ≡ n = many-each {P = λ r. Unit {0}} (λ s at x next e. tt) n s mid3 four .0 in
     let r : rs ≡ b .rules = ap (λ (c : Book). c .rules) (same-value same) in
-    (mid4, rw (← r, c, ← at) four)))))
+    (rw (← r) (omega arith), mid4, rw (← r, c, ← at) four)))))
 
 module _ (book : List ℕ) (k : ℕ) where
   abbrev Lacks : Type 0
@@ -80,7 +82,7 @@ module _ (book : List ℕ) (k : ℕ) where
       onRule b order e c j true f =
           let n = length (b .rules) in
           let l = ltb-true k n f in
-          one-of (ByteLayouts.rule n) book k n firstRule l (rules-read book b e .1) (λ ys from r end before here.
+          one-of (ByteLayouts.rule n) book k n firstRule l (rules-read book b e .2) (λ ys from r end before here.
           (λ q. absurd (some-bytes n from here (rw (j, f, before, here) at q)), λ w. absurd (lacks-none b e c l w)))
 
       onBook : Judged book → (ruleBytes book k ≡ []) ↔ Lacks

@@ -194,7 +194,8 @@ unfolding considerRule considerWith
 considerRule-made r given m g f s =
     let t = transition r (m .rows) given in
     let p = transition-ranged r (m .rows) (rising-proper (s .rises)) given f in
-    if-so (MadeOf m) (conditionHolds t (m .rows) (r .condition)) (λ e. runActions-made t (r .actions) m p (g .actionsGood) s) (λ e. wentMade Of.none)
+    if-so (MadeOf m) (conditionHolds t (m .rows) (r .condition))
+    (λ e. runActions-made t (r .actions) m p (g .actionsGood) s) (λ e. wentMade Of.none)
 
 -- a rule of the book is considered with what waits for it, on the image as it is
 pub considers : (rules : List Rule) (s : State) (k : ℕ) (r : Rule) → getElem? rules k ≡ some r

@@ -75,13 +75,16 @@ pub seq-takes : {A B : Type 0} {l h l′ h′ : ℕ} {p : Parser A} {f : A → P
     → Takes (l + l′) (h + h′) (p >>= f)
 seq-takes t k = then-takes {P = λ a. Unit {0}} t (record { fit = λ e. tt }) (λ a u. k a)
 
--- at most k of a kind
-few-takes : {A : Type 0} {l h : ℕ} {p : Parser A} (k n : ℕ) → n ≤ k → Takes l h p → Takes 0 (k * h) (many n p)
+-- at least j of a kind, and at most k
+pub many-takes : {A : Type 0} {l h : ℕ} {p : Parser A} (j k n : ℕ) → j ≤ n → n ≤ k → Takes l h p → Takes (j * l) (k * h) (many n p)
 unfolding many
-few-takes k zero few t = wider (omega arith) (omega arith) pure-takes
-few-takes zero (suc n) few t = absurd (omega arith)
-few-takes (suc k) (suc n) few t =
-    wider (omega arith) (omega arith) (seq-takes t (λ x. seq-takes (few-takes k n (omega arith) t) (λ xs. pure-takes)))
+many-takes zero k zero some few t = wider (omega arith) (omega arith) pure-takes
+many-takes (suc j) k zero some few t = absurd (omega arith)
+many-takes j zero (suc n) some few t = absurd (omega arith)
+many-takes zero (suc k) (suc n) some few t =
+    wider (omega arith) (omega arith) (seq-takes t (λ x. seq-takes (many-takes zero k n (omega arith) (omega arith) t) (λ xs. pure-takes)))
+many-takes (suc j) (suc k) (suc n) some few t =
+    wider (omega arith) (omega arith) (seq-takes t (λ x. seq-takes (many-takes j k n (omega arith) (omega arith) t) (λ xs. pure-takes)))
 
 -- ---- Numbers
 
@@ -99,13 +102,13 @@ byte-takes lo hi = record {
     on true b at = refl
     on false b at = refl
 
-within-gives : (lo hi : ℕ) → hi ≤ 255 → Gives (byteWithin lo hi) (λ b. (lo ≤ b) × (b ≤ hi))
+pub within-gives : (lo hi : ℕ) → hi ≤ 255 → Gives (byteWithin lo hi) (λ b. (lo ≤ b) × (b ≤ hi))
 within-gives lo hi l = reads-give (byte-reads {lo = lo} {hi = hi} (omega arith))
 
 -- a count within a range, and so many of a kind
 counted-takes : {A : Type 0} {l h : ℕ} {p : Parser A} (lo most : ℕ) → most ≤ 255 → Takes l h p
-    → Takes 1 (1 + most * h) (byteWithin lo most >>= λ n. many n p)
-counted-takes lo most l t = then-takes (byte-takes lo most) (within-gives lo most l) (λ n few. few-takes most n (few .1) t)
+    → Takes (1 + lo * l) (1 + most * h) (byteWithin lo most >>= λ n. many n p)
+counted-takes lo most l t = then-takes (byte-takes lo most) (within-gives lo most l) (λ n few. many-takes lo most n (few .0) (few .1) t)
 
 any-byte-takes : Takes 1 1 byte
 unfolding byte
@@ -124,8 +127,8 @@ unfolding ByteLayouts.value
 value-takes = seq-takes number32-takes (λ n. pure-takes)
 
 -- four of a kind
-four-take : {A : Type 0} {l h : ℕ} {p : Parser A} → Takes l h p → Takes 0 (4 * h) (many 4 p)
-four-take t = few-takes 4 4 (omega arith) t
+four-take : {A : Type 0} {l h : ℕ} {p : Parser A} → Takes l h p → Takes (4 * l) (4 * h) (many 4 p)
+four-take t = many-takes 4 4 4 (omega arith) (omega arith) t
 
 table-takes : Takes 1 1 ByteLayouts.table
 unfolding ByteLayouts.table
@@ -142,11 +145,11 @@ mask-takes = byte-takes 1 15
 -- a mask, then one of a kind for each set bit, then the rest
 masked-takes : {A B : Type 0} {l h l′ h′ : ℕ} {p : Parser A} {f : ℕ → List A → Parser B} → Takes l h p
     → ((m : ℕ) (xs : List A) → Takes l′ h′ (f m xs))
-    → Takes (1 + (0 + l′)) (1 + (4 * h + h′)) (ByteLayouts.mask >>= λ m. many (ones m) p >>= f m)
+    → Takes (1 + (0 * l + l′)) (1 + (4 * h + h′)) (ByteLayouts.mask >>= λ m. many (ones m) p >>= f m)
 unfolding ByteLayouts.mask
 masked-takes t k =
     then-takes mask-takes (within-gives 1 15 (omega arith)) (λ m few.
-    seq-takes (few-takes 4 (ones m) (ones-le 4 m (omega arith)) t) (k m))
+    seq-takes (many-takes 0 4 (ones m) (omega arith) (ones-le 4 m (omega arith)) t) (k m))
 
 -- ---- The log
 
@@ -169,7 +172,7 @@ pub log-takes : Takes 2 5634 logFields
 unfolding logFields
 log-takes =
     seq-takes number16-takes (λ n. must-takes (leb n mostOperations) (λ few.
-    few-takes mostOperations n (leb-true n mostOperations few) operation-takes))
+    many-takes 0 mostOperations n (omega arith) (leb-true n mostOperations few) operation-takes))
 
 -- ---- The book
 
@@ -197,7 +200,7 @@ module _ (g : ℕ) where
   unfolding ByteLayouts.matching
   matching-takes make =
       seq-takes source-takes (λ s. then-takes (byte-takes 1 mostPairs) (within-gives 1 mostPairs (omega arith)) (λ n few.
-      seq-takes (few-takes mostPairs n (few .1) pair-takes) (λ ps. pure-takes)))
+      seq-takes (many-takes 0 mostPairs n (omega arith) (few .1) pair-takes) (λ ps. pure-takes)))
 
   term-takes : Takes 1 11 (ByteLayouts.term g)
   unfolding ByteLayouts.term ByteLayouts.termOf ByteLayouts.againstConstant ByteLayouts.againstColumn
@@ -228,7 +231,7 @@ module _ (g : ℕ) where
       (if-takes (eqb n 4)
       (seq-takes table-takes (λ t. masked-takes expression-takes (λ m es. seq-takes terms-takes (λ ts. pure-takes)))) malformed-takes)))))
 
-  actions-takes : Takes 1 289 (ByteLayouts.actions g)
+  actions-takes : Takes 2 289 (ByteLayouts.actions g)
   unfolding ByteLayouts.actions
   actions-takes = counted-takes 1 mostActions (omega arith) action-takes
 
@@ -240,7 +243,7 @@ module _ (g : ℕ) where
   unfolding ByteLayouts.columns
   columns-takes = if-takes (bit g 2) mask-takes (byte-takes 0 0)
 
-pub rule-takes : (n : ℕ) → Takes 8 342 (ByteLayouts.rule n)
+pub rule-takes : (n : ℕ) → Takes 9 342 (ByteLayouts.rule n)
 unfolding ByteLayouts.rule
 rule-takes n =
     seq-takes (byte-takes 0 1) (λ a. seq-takes table-takes (λ t. seq-takes (byte-takes 1 7) (λ g.
@@ -261,7 +264,7 @@ unfolding bookFields
 book-takes =
     seq-takes number16-takes (λ l. must-takes (within 1 mostSteps l) (λ few.
     then-takes (byte-takes 0 mostRules) (within-gives 0 mostRules (omega arith)) (λ n few.
-    seq-takes (few-takes mostRules n (few .1) (rule-takes n)) (λ rs. pure-takes))))
+    seq-takes (many-takes 0 mostRules n (omega arith) (few .1) (rule-takes n)) (λ rs. pure-takes))))
 
 -- ---- The same bytes, again and again
 

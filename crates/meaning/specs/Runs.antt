@@ -7,9 +7,9 @@ use Prim.Native.Nat.{ℕ}
 use lib.ListN.{getElem?}
 use Rattle.meaning.specs.Base.{maybe, any}
 use Rattle.meaning.specs.Reading.{readAll}
-use Rattle.meaning.specs.Covers.{Row, Image, Book, Rule, LogOperation}
+use Rattle.meaning.specs.Covers.{Image, Book, Rule, LogOperation}
 use Rattle.meaning.specs.ByteLayouts
-use Rattle.meaning.specs.RowOperations.{NetEffect, netEffect, rowAt, makeAll}
+use Rattle.meaning.specs.RowOperations.{NetEffect, netEffect, makeAll}
 use Rattle.meaning.specs.Processing.{Ending, Event, process}
 use Rattle.meaning.specs.Processing.TransitionTables.{wakes}
 use Rattle.meaning.specs.EntryPoints.{Refusal, refused, accepted, verdict, acceptedBook, judgeBook}
@@ -35,10 +35,6 @@ pub data Spoken (image book log : List ℕ) : Type 0 where
   isAccepted : (a : Accepted image book log) → verdict image book log ≡ accepted (a .start) (endingOf a) → Spoken image book log
 
 -- ---- After some events
-
--- a row is the live row of its handle
-abbrev pub Live : List Row → Row → Type 0
-Live rows r = rowAt (r .handle) rows ≡ some r
 
 -- what waits for rule k: the net effect of the operations since its last consideration, or since the start
 unfoldable pub waitsFor : ℕ → List Event → NetEffect

@@ -1,6 +1,5 @@
 pub mod Words
 pub mod Unchanged
-pub mod BooksRead
-pub mod Sizes
+pub mod Few
 pub mod RulePlaces
 pub mod Determined

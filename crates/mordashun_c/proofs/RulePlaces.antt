@@ -1,22 +1,24 @@
--- The word of a rule's place. What is read of a book stands in it, and a rule takes bytes; a book that is read is as short as its length
--- field can say. So start and size fit their bits, and a caller who takes the word apart finds the rule's bytes.
+-- The word of a rule's place. What is read of a book stands in it, and a rule takes bytes; an accepted book is short. So start and size fit
+-- their bits, and a caller who takes the word apart finds the rule's bytes.
 use mathlib.Core.Path.{_≡_, refl, sym, ap, _∙_}
 use mathlib.Core.Bool.{Bool, true, false}
-use mathlib.Core.List.{List, [], _∷_}
+use mathlib.Core.List.{List, []}
 use mathlib.Core.Option.{some}
-use Prim.Native.Nat.{ℕ, zero, suc, _+_, _*_, _/_, _%_, _-_, _≤_, _<_}
+use Prim.Native.Nat.{ℕ, _+_, _*_, _/_, _%_, _-_, _≤_, _<_}
 use native.Mathlib.Omega.{arith}
 use borrow.Author.Tests.{lt-ltb, le-ltb}
 use lib.Dec.{ltb}
 use lib.ListN.{length, take, drop, length-take, length-drop}
 use Rattle.meaning.specs.Base.{if_then_else_}
-use Rattle.meaning.specs.Reading.{Read, bad, got, Parser, many, readAll}
+use Rattle.meaning.specs.Reading.{Read, bad, got, many, readAll}
 use Rattle.meaning.specs.Covers.{Book, Rule}
 use Rattle.meaning.specs.ByteLayouts as ByteLayouts
 use Rattle.meaning.specs.ByteLayouts.{rule}
 use Rattle.meaning.specs.EntryPoints.{Refusal, JudgedBook, refusedBook, acceptedBook, judgeBook, firstRule, bytesRead, ruleAfter, ruleIn}
 use Rattle.meaning.specs.EntryPoints.{ruleBytes}
-use Rattle.meaning.proofs.Parsing.{on-from-got}
+use Rattle.meaning.proofs.Takes.{many-takes, rule-takes}
+use Rattle.meaning.proofs.RuleBytes.{one-of, rules-read}
+use Rattle.meaning.proofs.Theorems.{lengths}
 use Rattle.meaning.proofs.RunsFit.{judged-read}
 use Rattle.words.specs.Words.{endOf}
 use Rattle.words.specs.declared.End.{End}
@@ -31,8 +33,6 @@ use Rattle.plan.specs.Plans.{Planned}
 use Rattle.plan.specs.declared.Plan.{Plan}
 use Rattle.engine.proofs.Judged.{with-order, rules-counted}
 use Rattle.mordashun_c.specs.Places.{startRead, startAfter, startIn, ruleStart, placeWord, ruleWord, wordAmong, RuleAt, EveryRule}
-use Rattle.mordashun_c.proofs.BooksRead.{book-told}
-use Rattle.mordashun_c.proofs.Sizes.{many-takes, rule-takes}
 
 -- ---- The word by what is said of the book
 
@@ -71,8 +71,8 @@ module _ (s : List ℕ) (n : ℕ) where
   rule-read : (k : ℕ) {xs : List Rule} {x : Rule} {from next : ℕ} → many k (rule n) s firstRule ≡ got xs from
       → rule n s from ≡ got x next → Span from next
   rule-read k {from = from} e f = record {
-    after = omega (arith, many-takes (rule-takes n) k .ends e);
-    takes = rule-takes n .ends f;
+    after = omega (arith, many-takes 0 k k (omega arith) (omega arith) (rule-takes n) .took e .0);
+    takes = rule-takes n .took f .0;
     inside = inside-ends (rule-inside n s from) f .1;
   }
 
@@ -83,7 +83,7 @@ module _ (s : List ℕ) (n : ℕ) where
   rule-spans k {from = from} e at f is =
       rule-read k (ends-readable (rule n) k s firstRule from (sym e ∙ at)) (sym f ∙ ap (λ (read : RuleRead). ruleOr s read) is)
 
-  module _ (short : length s ≤ 4294967299) (k : ℕ) where
+  module _ (short : length s ≤ 5480) (k : ℕ) where
     read-fits : {xs : List Rule} (from : ℕ) → many k (rule n) s firstRule ≡ got xs from → (r : Read Rule) → rule n s from ≡ r
         → Fitting s (startRead from r) (bytesRead s from r)
     unfolding startRead bytesRead
@@ -102,30 +102,6 @@ module _ (s : List ℕ) (n : ℕ) where
         Fitting s (if t then startAfter s n r else 0) (if t then ruleAfter s n r else [])
     rule-fits true = after-fits (many k (rule n) s firstRule) refl
     rule-fits false = nowhere s
-
--- ---- Every rule of an accepted book is read
-
--- where n are read, the one after k of them
-record Nth {A : Type 0} (p : Parser A) (k : ℕ) (s : List ℕ) (at : ℕ) : Type 0 where
-  before : List A
-  from : ℕ
-  value : A
-  next : ℕ
-  first : many k p s at ≡ got before from
-  read : p s from ≡ got value next
-
-nth : {A : Type 0} (p : Parser A) (n k : ℕ) (s : List ℕ) (at : ℕ) {xs : List A} {end : ℕ} → many n p s at ≡ got xs end → k < n
-    → Nth p k s at
-unfolding many
-nth p zero k s at e h = absurd (omega arith)
-nth p (suc n) zero s at e h =
-    on-from-got (p s at) _ e (λ x mid one rest.
-    record { before = []; from = at; value = x; next = mid; first = refl; read = one })
-nth p (suc n) (suc k) s at e h =
-    on-from-got (p s at) _ e (λ x mid one rest.
-    on-from-got (many n p s mid) _ rest (λ xs end two same.
-    let i = nth p n k s mid two (omega arith) in
-    record { before = x ∷ i .before; from = i .from; value = i .value; next = i .next; first = rw (one, i .first); read = i .read }))
 
 -- ---- What a caller relies on
 
@@ -147,11 +123,11 @@ size-found : (s : List ℕ) (b : Book) (k : ℕ) → readAll ByteLayouts.book s 
 unfolding startAfter startRead ruleAfter bytesRead
 size-found s b k e h =
     let n = length (b .rules) in
-    let r = book-told s b e in
-    let i = nth (rule n) n k s firstRule (r .rules) h in
-    let span = rule-read s n k (i .first) (i .read) in
-    let size = part-length s (i .from) (i .next) (span .inside) in
-    rw (lt-ltb k n h, i .first) (rw (i .read) (rw size (omega (arith, r .short))))
+    let short = lengths .book .atMost s b e in
+    one-of (rule n) s k n firstRule h (rules-read s b e .2) (λ ys from x next before here.
+    let span = rule-read s n k before here in
+    let size = part-length s from next (span .inside) in
+    rw (lt-ltb k n h, before) (rw here (rw size (omega arith))))
 
 pub every-rule : EveryRule
 unfolding ruleWord ruleStart startIn ruleBytes ruleIn
@@ -168,7 +144,7 @@ every-rule s k = go (judgeBook s) refl
     go (acceptedBook b order) e =
         let n = length (b .rules) in
         let read = judged-read s b order e .0 in
-        let f = fitting-at (rule-fits s n (book-told s b read .short) k (ltb k n)) (wordAmong s n k) refl in
+        let f = fitting-at (rule-fits s n (lengths .book .atMost s b read) k (ltb k n)) (wordAmong s n k) refl in
         record {
           bytes = rw e (f .0);
           inside = rw e (f .1);

@@ -28,5 +28,5 @@ PutsImage room before after = after ≡ inFrontOf (imageBytes (record { next = l
 -- an accepted image that stands in the room as it was read is written back as its own bytes
 abbrev pub WritesBack : Type 0
 WritesBack =
-    (s room before after : List ℕ) (m : Image) → readAll ByteLayouts.image s ≡ some m → low32At room NEXT ≡ m .next → liveRows room ≡ m .rows
-    → PutsImage room before after → after ≡ inFrontOf s before
+    (s room before after : List ℕ) (m : Image) → readAll ByteLayouts.image s ≡ some m → low32At room NEXT ≡ m .next
+    → liveRows room ≡ m .rows → PutsImage room before after → after ≡ inFrontOf s before

@@ -56,7 +56,8 @@ module _ {xs x0 : List ℕ} (l : Laid xs) (h : Holds CHOSEN ROWS xs x0 []) where
         }
 
     pub choosing-done : (book : List ℕ) (triggers : ℕ) {x : List ℕ} {j : ℕ}
-        → PicksOut (tableAt x0 base) (select (wanted x0 book triggers q) (tableAt x0 base)) rows → Choosing x0 x base rows j → rows .count ≤ j
+        → PicksOut (tableAt x0 base) (select (wanted x0 book triggers q) (tableAt x0 base)) rows
+        → Choosing x0 x base rows j → rows .count ≤ j
         → Chose xs x (queryMeant book triggers q)
     unfolding slotsOf
     choosing-done book triggers {x} {j} picks s none =

@@ -26,7 +26,8 @@ use Rattle.slots.proofs.Order.{strict}
 use Rattle.room.proofs.Live.{rows-length}
 use Rattle.room.proofs.Kept.{kept-below, kept-above, transition-kept}
 use Rattle.transition.proofs.Lookups.{live-kept, rows-kept, still-live}
-use Rattle.transition.specs.Shown.{slotIn, RoomFor, Grown, LiveRises, insertedOf, deletedOf, newOf, oldOf, RoomForAll, Shown, Bare, AllBare}
+use Rattle.transition.specs.Shown.{slotIn, RoomFor, Grown, LiveRises, insertedOf, deletedOf, newOf, oldOf}
+use Rattle.transition.specs.Shown.{RoomForAll, Shown, Bare, AllBare}
 
 -- ---- Emptying
 

@@ -61,5 +61,6 @@ returns-2 c =
 pub stays-spec : {M : Type 1} → statement M
 stays-spec =
     tie.close
-    (tie.spec (λ c κs. search needs) kind-at-requires (λ c. search needs) mask-at-requires (λ c κs. search needs) returns (λ c. search needs) returns-2
+    (tie.spec (λ c κs. search needs) kind-at-requires (λ c. search needs) mask-at-requires (λ c κs. search needs) returns
+    (λ c. search needs) returns-2
     (λ c q. absurd (let z : _≡_ {A = ℕ} 0 1 = cc in omega arith)) (λ c q. absurd (let z : _≡_ {A = ℕ} 0 1 = cc in omega arith)))

@@ -11,7 +11,8 @@ use Rattle.meaning.specs.RowOperations.{NetEffect, inserted, deleted, up
 use Rattle.meaning.specs.Processing.{Event}
 use Rattle.meaning.specs.Processing.TransitionTables.{Transition, transition}
 use Rattle.meaning.specs.Trace.{operationsIn, sinceLast, Differs, Consideration}
-use Rattle.meaning.specs.Runs.{Accepted, endingOf, Live, numbered, imageAfter}
+use Rattle.meaning.specs.Made.{Live}
+use Rattle.meaning.specs.Runs.{Accepted, endingOf, numbered, imageAfter}
 
 -- the mask meets the rule's columns: a column is in both
 abbrev pub Meets : Rule → ℕ → Type 0

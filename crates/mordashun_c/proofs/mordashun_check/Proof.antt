@@ -2,7 +2,7 @@
 use borrow.Author.Needs.{needs}
 use Rattle.engine.specs.Answers.{checkMeant}
 use Rattle.mordashun_c.specs.Answered.{checkWord}
-use Rattle.mordashun_c.proofs.BooksRead.{checks-few}
+use Rattle.mordashun_c.proofs.Few.{checks-few}
 use Rattle.mordashun_c.proofs.Words.{check-answered}
 use Rattle.mordashun_c.proofs.mordashun_check.Statement.{statement}
 use Rattle.mordashun_c.proofs.mordashun_check.Tie as tie
