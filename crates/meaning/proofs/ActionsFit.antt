@@ -9,6 +9,7 @@ use native.Mathlib.Omega.{arith}
 use lib.IntN.{ℤ, pos, _+ℤ_}
 use lib.Signed.{mag}
 use lib.Dec.{eqb, ltb, leb}
+use lib.Count.{ones}
 use lib.ListN.{length, getD, length-append}
 use borrow.Author.Tests.{ltb-false, leb-true, ne-eqb}
 use Rattle.meaning.specs.Base.{if_then_else_, bit, select, both, eachOr, Each, noElement, anElement}
@@ -30,6 +31,7 @@ use Rattle.meaning.proofs.Lists.{clash, same-some, each-select, eqb-sel
 use Rattle.meaning.proofs.Lookups.{rowAt-head, rowAt-skip, found-so, found-handle, rowAt-without-other, rowAt-withRow-other}
 use Rattle.meaning.proofs.Lookups.{made-append}
 use Rattle.meaning.proofs.Images.{rising-proper, makeAll-sound}
+use Rattle.meaning.proofs.SetColumns.{bit-at, masked-elsewhere, masked-length}
 
 -- ---- What parsers yield
 
@@ -45,7 +47,7 @@ IsMask mask = (1 ≤ mask) × (mask ≤ 15)
 pub data GoodOperation : LogOperation → Type 0 where
   goodInsert : {t : ℕ} {vs : List ℤ} → t ≤ 3 → Four vs → GoodOperation (insert t vs)
   goodDelete : {h : ℕ} → GoodOperation (delete h)
-  goodUpdate : {h mask : ℕ} {vs : List ℤ} → IsMask mask → InRange vs → GoodOperation (update h mask vs)
+  goodUpdate : {h mask : ℕ} {vs : List ℤ} → IsMask mask → length vs ≡ ones mask → InRange vs → GoodOperation (update h mask vs)
 
 -- a sum is tested when it is worked out
 pub data GoodExpression : Expression → Type 0 where
@@ -59,7 +61,7 @@ pub data GoodAction : Action → Type 0 where
   goodInsertFrom : {t : ℕ} {q : Query} {es : List Expression} → t ≤ 3 → length es ≡ 4 → Each GoodExpression es
       → GoodAction (insertFromQuery t q es)
   goodDeleteRows : {t : ℕ} {ts : List Term} → GoodAction (deleteRows t ts)
-  goodUpdateRows : {t mask : ℕ} {es : List Expression} {ts : List Term} → IsMask mask → Each GoodExpression es
+  goodUpdateRows : {t mask : ℕ} {es : List Expression} {ts : List Term} → IsMask mask → length es ≡ ones mask → Each GoodExpression es
       → GoodAction (updateRows t mask es ts)
 
 -- ---- Results whose operations fit
@@ -170,17 +172,6 @@ deleteAll-made rs m c = wentMade (deletes-made rs m c)
 
 -- ---- Update
 
-masked-length : (mask c : ℕ) (vs olds : List ℤ) → length (masked mask c vs olds) ≡ length olds
-unfolding masked
-masked-length mask c vs [] = refl
-masked-length mask c [] (o ∷ os) = refl
-masked-length mask c (v ∷ vs) (o ∷ os) = go (bit mask c) (masked-length mask (suc c) vs os) (masked-length mask (suc c) (v ∷ vs) os)
-  where
-    go : (b : Bool) → length (masked mask (suc c) vs os) ≡ length os → length (masked mask (suc c) (v ∷ vs) os) ≡ length os
-        → length (if b then v ∷ masked mask (suc c) vs os else o ∷ masked mask (suc c) (v ∷ vs) os) ≡ suc (length os)
-    go true p q = ap suc p
-    go false p q = ap suc q
-
 masked-range : (mask c : ℕ) (vs olds : List ℤ) → InRange vs → InRange olds → InRange (masked mask c vs olds)
 unfolding masked
 masked-range mask c vs [] f g = noElement
@@ -193,36 +184,13 @@ masked-range mask c (v ∷ vs) (o ∷ os) (anElement a f) (anElement b g) =
     go true p q = anElement a p
     go false p q = anElement b q
 
-unlisted : (mask : ℕ) {c d : ℕ} → c ≡ d → bit mask c ≡ false → bit mask d ≡ false
-unlisted mask k e = subst (λ (n : ℕ). bit mask n ≡ false) k e
-
--- a column that the mask does not list keeps its value
-masked-elsewhere : (mask c : ℕ) (vs olds : List ℤ) (i : ℕ) → bit mask (c + i) ≡ false
-    → getD (masked mask c vs olds) i (pos 0) ≡ getD olds i (pos 0)
-unfolding masked
-masked-elsewhere mask c vs [] i e = refl
-masked-elsewhere mask c [] (o ∷ os) i e = refl
-masked-elsewhere mask c (v ∷ vs) (o ∷ os) i e =
-    go (bit mask c) refl i e (λ j f. masked-elsewhere mask (suc c) vs os j f) (λ j f. masked-elsewhere mask (suc c) (v ∷ vs) os j f)
-  where
-    go : (b : Bool) → bit mask c ≡ b → (i : ℕ) → bit mask (c + i) ≡ false
-        → ((j : ℕ) → bit mask (suc c + j) ≡ false → getD (masked mask (suc c) vs os) j (pos 0) ≡ getD os j (pos 0))
-        → ((j : ℕ) → bit mask (suc c + j) ≡ false → getD (masked mask (suc c) (v ∷ vs) os) j (pos 0) ≡ getD os j (pos 0))
-        → getD (if b then v ∷ masked mask (suc c) vs os else o ∷ masked mask (suc c) (v ∷ vs) os) i (pos 0) ≡ getD (o ∷ os) i (pos 0)
-    go true f zero e p q =
-        let h : bit mask c ≡ false = unlisted mask (let k : c + 0 ≡ c = omega arith in k) e in
-        absurd (let z : _≡_ {A = ℕ} 0 1 = cc in omega arith)
-    go true f (suc i) e p q = p i (unlisted mask (let k : c + suc i ≡ suc c + i = omega arith in k) e)
-    go false f zero e p q = refl
-    go false f (suc i) e p q = q i (unlisted mask (let k : c + suc i ≡ suc c + i = omega arith in k) e)
-
 pub updatedRow-only : (mask : ℕ) (vs : List ℤ) (r : Row) → OnlyIn mask r (updatedRow mask vs r)
 unfolding updatedRow cell
 updatedRow-only mask vs r =
     record {
       sameHandle = refl;
       sameTable = refl;
-      elsewhere = λ c e. masked-elsewhere mask 0 vs (r .values) c (unlisted mask (let k : c ≡ 0 + c = omega arith in k) e);
+      elsewhere = λ c e. masked-elsewhere mask 0 vs (r .values) c (bit-at mask (let k : c ≡ 0 + c = omega arith in k) e);
     }
 
 pub updatedRow-proper : (mask : ℕ) (vs : List ℤ) (r : Row) → InRange vs → Proper r → Proper (updatedRow mask vs r)
@@ -258,7 +226,7 @@ unfolding operate
 operate-made (insert t vs) m (goodInsert l f) s = insertAll-made t (vs ∷ []) m l (anElement f noElement)
 operate-made (delete h) m goodDelete s =
     maybe-so (MadeOf m) (rowAt h (m .rows)) (λ e. fails-made noSuchRow) (λ r e. deleteAll-made (r ∷ []) m (one-taken m h r s e))
-operate-made (update h mask vs) m (goodUpdate i f) s =
+operate-made (update h mask vs) m (goodUpdate i n f) s =
     maybe-so (MadeOf m) (rowAt h (m .rows)) (λ e. fails-made noSuchRow)
     (λ r e. updateAll-made mask (r ∷ []) (vs ∷ []) m (one-taken m h r s e) (anElement f noElement))
 
@@ -357,7 +325,7 @@ perform-made t (insertFromQuery n q es) m p (goodInsertFrom l k g) s =
     (λ r vs f d. let w = workOutAll-range es r vs f g d in record { four = w .0 ∙ k; ranged = w .1 })
     (chosen-ranged t m q p s) e .1))
 perform-made t (deleteRows n ts) m p goodDeleteRows s = deleteAll-made (chosen t (m .rows) (rowsOf n ts)) m (chosen-taken t m n ts s)
-perform-made t (updateRows n mask es ts) m p (goodUpdateRows i g) s =
+perform-made t (updateRows n mask es ts) m p (goodUpdateRows i k g) s =
     let rs = chosen t (m .rows) (rowsOf n ts) in
     maybe-so (MadeOf m) (eachOr (workOutAll es) rs) (λ e. fails-made sumOutOfRange) (λ vss e.
     updateAll-made mask rs vss m (chosen-taken t m n ts s)

@@ -19,6 +19,9 @@ pub mod Lives
 pub mod Capacity
 pub mod OwnTable
 pub mod Stretches
+-- What operations and actions make (8)
+pub mod SetColumns
+pub mod ActionResults
 -- The operations of a run fit
 pub mod Traces
 pub mod ActionsFit
@@ -43,6 +46,8 @@ pub mod Chooses
 -- When an operation or an action fails (8)
 pub mod OnlyLog
 pub mod Reasons
+-- What they make where they do not fail (8)
+pub mod Performs
 -- What is refused, and how long what is accepted can be (1, 2)
 pub mod Refusals
 pub mod Takes

@@ -86,7 +86,7 @@ operate-fit : (q : LogOperation) (m : Image) → GoodOperation q → Fit (operat
 unfolding operate deleteAll updateAll fails
 operate-fit (insert t vs) m (goodInsert l f) = insertAll-fit t (vs ∷ []) m
 operate-fit (delete h) m goodDelete = maybe-fit (rowAt h (m .rows)) (endsFit noElement) (λ r e. wentFit (anElement tt noElement))
-operate-fit (update h mask vs) m (goodUpdate i f) =
+operate-fit (update h mask vs) m (goodUpdate i n f) =
     maybe-fit (rowAt h (m .rows)) (endsFit noElement) (λ r e. wentFit (updates-fit mask i (r ∷ []) (vs ∷ [])))
 
 perform-fit : (t : Transition) (a : Action) (m : Image) → GoodAction a → Fit (perform t a m)
@@ -96,7 +96,7 @@ perform-fit t (insertRow n vs) m (goodInsertRow l f) = insertAll-fit n (vs ∷ [
 perform-fit t (insertFromQuery n q es) m (goodInsertFrom l k g) =
     maybe-fit (eachOr (workOutAll es) (chosen t (m .rows) q)) (endsFit noElement) (λ vss e. insertAll-fit n vss m)
 perform-fit t (deleteRows n ts) m goodDeleteRows = wentFit (each-map deletes (chosen t (m .rows) (rowsOf n ts)) (λ r. tt))
-perform-fit t (updateRows n mask es ts) m (goodUpdateRows i g) =
+perform-fit t (updateRows n mask es ts) m (goodUpdateRows i k g) =
     let rs = chosen t (m .rows) (rowsOf n ts) in
     maybe-fit (eachOr (workOutAll es) rs) (endsFit noElement) (λ vss e. wentFit (updates-fit mask i rs vss))
 

@@ -110,7 +110,7 @@ change-gives : Gives ByteLayouts.change GoodOperation
 unfolding ByteLayouts.change
 change-gives =
     past-gives number32 (λ h. bind-gives mask-gives (λ m i. bind-gives (values-give (ones m)) (λ vs q.
-    pure-gives (goodUpdate i (q .1)))))
+    pure-gives (goodUpdate i (q .0) (q .1)))))
 
 pub operation-gives : Gives ByteLayouts.operation GoodOperation
 unfolding ByteLayouts.operation ByteLayouts.operationOf
@@ -160,7 +160,7 @@ module _ (triggers : ℕ) where
   updateRows-gives =
       past-gives ByteLayouts.table (λ t. bind-gives mask-gives (λ m i.
       bind-gives (many-gives (ones m) expression-gives) (λ es c.
-      past-gives (ByteLayouts.terms triggers) (λ ts. pure-gives (goodUpdateRows i (c .1))))))
+      past-gives (ByteLayouts.terms triggers) (λ ts. pure-gives (goodUpdateRows i (c .0) (c .1))))))
 
   pub action-gives : Gives (ByteLayouts.action triggers) GoodAction
   unfolding ByteLayouts.action ByteLayouts.actionOf

@@ -35,7 +35,7 @@ use Rattle.meaning.proofs.Meets.{meets-column}
 
 -- ---- The rows that a net effect gives
 
-each-in : {A : Type 0} {P : A → Type 0} {xs : List A} → Each P xs → (x : A) → x ∈ xs → P x
+pub each-in : {A : Type 0} {P : A → Type 0} {xs : List A} → Each P xs → (x : A) → x ∈ xs → P x
 each-in {P = P} (anElement p ps) x (first e) = subst P (sym e) p
 each-in (anElement p ps) x (later i) = each-in ps x i
 

@@ -38,6 +38,7 @@ use Rattle.meaning.proofs.Lengths as Lengths
 use Rattle.meaning.proofs.JoinTable as JoinTable
 use Rattle.meaning.proofs.Chooses as Chooses
 use Rattle.meaning.proofs.Reasons as Reasons
+use Rattle.meaning.proofs.Performs as Performs
 
 -- ---- 1. Byte layouts
 
@@ -159,3 +160,6 @@ module _ {image book log : List ℕ} (a : Accepted image book log) where
 
   pub reasons : Stated.Reasons.Reasons a
   reasons = Reasons.reasons a
+
+  pub performs : Stated.Performs.Performs a
+  performs = Performs.performs a

@@ -23,6 +23,7 @@ use Rattle.meaning.specs.Processing.Actions.{went}
 use Rattle.meaning.specs.Trace.{operationsIn, sinceLast, givenTo, joinedIn, Point, Making, masksOn, deletedIn, fromOutside, Differs}
 use Rattle.meaning.specs.Runs.{Accepted, endingOf, Spoken, waitsFor, imageAfter}
 -- Topics with a file of their own, by section: 1 Lengths, 2 Refusals, 3 Admitted, 4 Lawful, 6 Shows and OwnTable, 7 Chooses, 8 Reasons
+-- and Performs
 pub mod Lengths
 pub mod Refusals
 pub mod Admitted
@@ -31,6 +32,7 @@ pub mod Shows
 pub mod OwnTable
 pub mod Chooses
 pub mod Reasons
+pub mod Performs
 
 -- ---- 1. Byte layouts
 
@@ -178,3 +180,5 @@ TotalOrder = (rules : List Rule) (order : List ℕ) → totalOrder rules ≡ som
 -- ---- 8. Actions
 
 -- Reasons: when an action fails, and with which reason
+
+-- Performs: what an action makes, and what an operation of the log makes
