@@ -114,7 +114,7 @@ fn place(start: usize, size: usize) -> u64
 // can say, so start and size fit their bits.
 fn place_in(book: &[u8], n: usize, k: usize) -> u64
     requires { ⌜ n ≤ 16 ⌝ }
-    requires { ⌜ length (now book) ≤ 4294967299 ⌝ }
+    requires { ⌜ length (now book) ≤ 5480 ⌝ }
     ensures { λ w. ⌜ w ≡ wordAmong (now (book .entry)) n k ⌝ }
 {
     if n <= k {

@@ -2,8 +2,8 @@
 use borrow.Author.Needs.{needs}
 use borrow.Author.Tests.{not-true, not-false}
 use denote.Ref.{now}
+use Rattle.meaning.proofs.Theorems.{lengths}
 use Rattle.engine.proofs.Judged.{refused-malformed, told, without-order}
-use Rattle.mordashun_c.proofs.BooksRead.{book-told}
 use Rattle.mordashun_c.proofs.RulePlaces.{refused-nowhere, place-given}
 use Rattle.mordashun_c.proofs.mordashun_rule.Statement.{statement}
 use Rattle.mordashun_c.proofs.mordashun_rule.Tie as tie
@@ -30,7 +30,7 @@ place-in-requires c κs =
     let judged = planned .before .before .before .before in
     let s = now (judged .before .before .args .book) in
     let w = told s (judged .judge .ensures .1) (planned .before .before .count .given .1) in
-    (w .few, book-told s _ (w .book) .short)
+    (w .few, lengths .book .atMost s _ (w .book))
 
 returns-2 : tie.Need-returns-2
 returns-2 c =
