@@ -110,8 +110,8 @@ fn place(start: usize, size: usize) -> u64
     start as u64 * START + size as u64
 }
 
-// The place of rule k of a well-formed book of n rules. Any book that is read is as short as its length field
-// can say, so start and size fit their bits.
+// The place of rule k of a well-formed book of n rules. No such book has more than 5,480 bytes, so start and size
+// fit their bits.
 fn place_in(book: &[u8], n: usize, k: usize) -> u64
     requires { ⌜ n ≤ 16 ⌝ }
     requires { ⌜ length (now book) ≤ 5480 ⌝ }
