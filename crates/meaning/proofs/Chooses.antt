@@ -47,6 +47,7 @@ module _ {A : Type 0} (p : A → Bool) {P : A → Type 0} (says : (x : A) → (p
       go (inr e) f = let r = f e in (r.0, later r.1, r.2)
 
   some-any : (xs : List A) (x : A) → x ∈ xs → P x → any p xs ≡ true
+  some-any [] x i q = elim i [ ]
   some-any (y ∷ xs) x (first e) q = or_left (p y) (any p xs) ((says y).1 (subst P e q))
   some-any (y ∷ xs) x (later i) q = or_right (p y) (any p xs) (some-any xs x i q)
 

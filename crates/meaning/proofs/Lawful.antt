@@ -120,9 +120,9 @@ module _ {image book log : List ℕ} (a : Accepted image book log) (e : Ending) 
       let end : End (past ++ consideration a.rule_book.rules s k new) =
       record { due = subst (EndDue _) (sym o) (broken _ breaks); within = omega (arith, h.allowed); counted = n ∙ one_more a h k new } in
       rw append-nil at (along-considered h new [] (turn-now h t (rw (c, append-nil) (refl, o))) end)
-  steps-along (goes_on {new = new} {e = f} t c more) h o n =
+  steps-along {past = past} (goes_on {k = k} {s = s} {new = new} {e = f} t c more) h o n =
       along-considered h new f.trace (turn-now h t (rw c (f.trace, refl, steps-rest more o)))
-      (steps-along more (state-moved a h t c) o n)
+      (steps-along {past = past ++ consideration a.rule_book.rules s k new} more (state-moved a h t c) o n)
 
   -- and the log before them
   runs-along : {f : Ending} → Runs a.rule_book.rules a.order a.rule_book.limit a.operations a.start f

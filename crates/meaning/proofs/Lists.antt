@@ -86,7 +86,7 @@ module _ {A : Type 0} {P : A → Type 0} where
   pub each-drop : {xs : List A} (n : ℕ) → Each P xs → Each P (drop n xs)
   each-drop zero rest = rest
   each-drop (suc n) no_element = no_element
-  each-drop (suc n) (an_element a rest) = each-drop n rest
+  each-drop (suc n) (an_element {x = x} {xs = xs} a rest) = each-drop {xs = xs} n rest
 
   pub each-element : {xs : List A} {x : A} (k : ℕ) → Each P xs → get_elem? xs k ≡ some x → P x
   each-element k no_element q = absurd (let z : ◌≡◌ {A = ℕ} 0 1 = cc in omega arith)

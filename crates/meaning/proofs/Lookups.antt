@@ -212,12 +212,12 @@ make_all-append (o ∷ xs) ys m = make_all-append xs ys (make o m)
 
 pub made-front : {m : Image} (xs ys : List RowOperation) → Made m (xs ++ ys) → Made m xs
 made-front [] ys k = none_made
-made-front (o ∷ xs) ys (more f k) = more f (made-front xs ys k)
+made-front {m = m} (o ∷ xs) ys (more f k) = more f (made-front {m = make o m} xs ys k)
 
 pub made-back : {m : Image} (xs ys : List RowOperation) → Made m (xs ++ ys) → Made (make_all xs m) ys
 unfolding make_all
 made-back [] ys k = k
-made-back (o ∷ xs) ys (more f k) = made-back xs ys k
+made-back {m = m} (o ∷ xs) ys (more f k) = made-back {m = make o m} xs ys k
 
 pub made-append : {m : Image} {xs ys : List RowOperation} → Made m xs → Made (make_all xs m) ys → Made m (xs ++ ys)
 unfolding make_all

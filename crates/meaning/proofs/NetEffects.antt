@@ -74,7 +74,7 @@ place-rises {low} k l (above {h = h} {hs = hs} a r) = go (ltb k h) refl (eqb k h
 named-rises : {ks : List ℕ} (os : List RowOperation) → Rises 0 ks → Rises 0 (named_on ks os)
 unfolding named_on
 named-rises [] r = r
-named-rises (o ∷ os) r = named-rises os (place-rises (handle_of o) (omega arith) r)
+named-rises {ks = ks} (o ∷ os) r = named-rises {ks = place (handle_of o) ks} os (place-rises (handle_of o) (omega arith) r)
 
 has-place : (h k : ℕ) (ks : List ℕ) → has h (place k ks) ≡ (eqb h k || has h ks)
 unfolding place

@@ -166,12 +166,12 @@ insert-way {S} t vss m no_sum =
 
 -- ---- Rows that are worked out, or of which one stops it
 
-worked-way : {es : List Expression} {xs : List Row} {o : Option (List (List ℤ))} {n : ℕ} {f : List (List ℤ) → Result} (m : Image)
+worked-way : {es : List Expression} {xs : List Row} {o : Option (List (List ℤ))} {f : List (List ℤ) → Result} (m : Image) (n : ℕ)
     → Worked (work_out_all es) (row-stops es) xs o
     → ((vss : List (List ℤ)) → ¬ SomeStops es xs → length vss ≡ length xs → Way (Due m ⊥ (SomeStops es xs) n) (f vss))
     → Way (Due m ⊥ (SomeStops es xs) n) (maybe o (fails sum_out_of_range) f)
-worked-way {es} {xs} {n = n} m (stopped s) k = failing sum_out_of_range s (by-sum m n (SomeStops es xs) s)
-worked-way m (worked {ys = vss} no_sum l) k = k vss no_sum l
+worked-way {es} {xs} m n (stopped s) k = failing sum_out_of_range s (by-sum m n (SomeStops es xs) s)
+worked-way m n (worked {ys = vss} no_sum l) k = k vss no_sum l
 
 -- ---- On a sound image, where what inserts no row meets no limit
 
@@ -201,11 +201,11 @@ module _ (m : Image) (sound : Sound m) where
   action-way t (insert_row n vs) = insert-way n (vs ∷ []) m (λ b. b)
   action-way t (insert_from_query n q es) =
       let xs = chosen t m.rows q in
-      worked-way m (works (work_out_all es) (row-stops es) xs) (λ vss no_sum l.
+      worked-way m _ (works (work_out_all es) (row-stops es) xs) (λ vss no_sum l.
       subst (λ (k : ℕ). Way (Due m ⊥ (SomeStops es xs) k) (insert_all n vss m)) l (insert-way n vss m no_sum))
   action-way t (delete_rows n ts) = going (none-due m 0 (λ b. b) (λ b. b) few left)
   action-way t (update_rows n mask es ts) =
-      worked-way m (works (work_out_all es) (row-stops es) (chosen t m.rows (rows_of n ts))) (λ vss no_sum l.
+      worked-way m _ (works (work_out_all es) (row-stops es) (chosen t m.rows (rows_of n ts))) (λ vss no_sum l.
       going (none-due m 0 (λ b. b) no_sum few left))
 
 pub reasons : {image book log : List ℕ} (a : Accepted image book log) → Reasons a

@@ -37,6 +37,7 @@ use Rattle.meaning.proofs.Meets.{meets-column}
 -- ---- The rows that a net effect gives
 
 pub each_in : {A : Type 0} {P : A → Type 0} {xs : List A} → Each P xs → (x : A) → x ∈ xs → P x
+each_in no_element x i = elim i [ ]
 each_in {P = P} (an_element p ps) x (first e) = subst P (sym e) p
 each_in (an_element p ps) x (later i) = each_in ps x i
 

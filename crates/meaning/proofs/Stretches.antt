@@ -1,6 +1,6 @@
 -- What two stretches say of one table: the effects of the later join those of the earlier. Lists by rising handle that say the same of each
 -- handle are the same; and on each handle it holds, since a handle never changes its table while operations fit.
-use mathlib.Core.Path.{◌≡◌, refl, sym, ap, ◌∙◌}
+use mathlib.Core.Path.{◌≡◌, refl, sym, ap, ◌∙◌, subst}
 use mathlib.Core.Logic.{◌≢◌}
 use mathlib.Core.Bool.{Bool, true, false}
 use mathlib.Core.List.{List, [], ◌∷◌, ◌++◌}
@@ -51,7 +51,8 @@ same-listed (one_entry {p = p} {ps = ps} a b c) (one_entry {p = q} {ps = qs} d e
     let u = not-below q.0 (one_entry {p = p} pp b c) (λ z. e (sym (says_first q qs) ∙ sym (f q.0) ∙ z)) in
     let v = not-below p.0 (one_entry {p = q} qq e g) (λ z. b (sym (says_first p ps) ∙ f p.0 ∙ z)) in
     let handle : p.0 ≡ q.0 = omega arith in
-    let effect : p.1 ≡ q.1 = sym (says_first p ps) ∙ f p.0 ∙ rw handle (says_first q qs) in
+    let here : effect_at p.0 (q ∷ qs) ≡ q.1 = subst (λ h. effect_at h (q ∷ qs) ≡ q.1) (sym handle) (says_first q qs) in
+    let effect : p.1 ≡ q.1 = sym (says_first p ps) ∙ f p.0 ∙ here in
     let tail : ps ≡ qs = same-listed c g (λ h. go handle h (eqb p.0 h) refl) in
     λ i. (handle i, effect i) ∷ tail i
   where
