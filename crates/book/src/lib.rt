@@ -1,4 +1,5 @@
 // The book: judged exactly, its rules and their actions decoded where they stand.
+#![tactic(auto)]
 ghost use Rattle.std.specs.Prelude.{◌≡◌, [], ◌^◌, ◌≤◌, ltb, length};
 ghost use Rattle.meaning.specs.Base.{if◌then◌else◌};
 ghost use Rattle.meaning.specs.Reading.{many, read_all};
@@ -12,7 +13,7 @@ use terms::{Query, QueryRead, Terms, TermsRead};
 use words::End;
 
 // An action; values, expressions and terms are named by the place of the first.
-#[derive(Drop)]
+#[derive(Clone, Copy)]
 pub enum Action {
     Rollback,
     Insert {
@@ -36,39 +37,39 @@ pub enum Action {
     },
 }
 
-#[derive(Drop)]
+#[derive(Clone, Copy)]
 pub enum ActionRead {
     Is { action: Action, next: usize },
     Bad,
 }
 
-#[derive(Drop)]
+#[derive(Clone, Copy)]
 pub enum Condition {
     Absent,
     Holds(Query),
 }
 
-#[derive(Drop)]
+#[derive(Clone, Copy)]
 pub enum ConditionRead {
     Is { condition: Condition, next: usize },
     Bad,
 }
 
 // A number of actions, and where the first stands.
-#[derive(Drop)]
+#[derive(Clone, Copy)]
 pub struct Actions {
     pub count: usize,
     pub first: usize,
 }
 
-#[derive(Drop)]
+#[derive(Clone, Copy)]
 pub enum ActionsRead {
     Is { actions: Actions, next: usize },
     Bad,
 }
 
 // What stands before a rule's condition.
-#[derive(Drop)]
+#[derive(Clone, Copy)]
 pub struct Head {
     pub active: bool,
     pub table: usize,
@@ -77,26 +78,26 @@ pub struct Head {
     pub precedes: usize,
 }
 
-#[derive(Drop)]
+#[derive(Clone, Copy)]
 enum HeadRead {
     Is { head: Head },
     Bad,
 }
 
-#[derive(Drop)]
+#[derive(Clone, Copy)]
 pub struct Rule {
     pub head: Head,
     pub condition: Condition,
     pub actions: Actions,
 }
 
-#[derive(Drop)]
+#[derive(Clone, Copy)]
 pub enum RuleRead {
     Is { rule: Rule, next: usize },
     Bad,
 }
 
-#[derive(Drop)]
+#[derive(Clone, Copy)]
 pub enum BookRead {
     Is { limit: usize, count: usize },
     Bad,

@@ -1,4 +1,5 @@
 // Row operations over all rows that an action chose or worked out, one after another.
+#![tactic(auto)]
 ghost use Rattle.std.specs.Prelude.{◌≡◌, ◌≤◌};
 ghost use Rattle.meaning.specs.Processing.Actions.{delete_all, insert_all};
 ghost use Rattle.meaning.specs.Made.{Taken};
@@ -10,7 +11,7 @@ ghost use Rattle.changes.specs.Steps.{Acts, values_in, Rewritten, UpdatesAll};
 use rows::Space;
 
 // Why an operation fails, in the order of document 01's numbers.
-#[derive(Drop)]
+#[derive(Clone, Copy)]
 pub enum Reason {
     NoSuchRow,
     Full,
@@ -19,7 +20,7 @@ pub enum Reason {
 }
 
 // It went on, or ends the run: rolled back, or failed for a reason.
-#[derive(Drop)]
+#[derive(Clone, Copy)]
 pub enum Step {
     Went,
     RolledBack,

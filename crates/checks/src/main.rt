@@ -1,6 +1,7 @@
 // Runs the book check and the rule finder on the books of cases E, F and G of document 01, on a book with a byte
 // cut off and on an output of 15 bytes. For each it prints the answer, all of the output, which held 99 before,
 // and the bytes of rules 1, 2 and 3.
+#![tactic(auto)]
 ghost use Rattle.std.specs.Prelude.{◌≡◌, length};
 
 use engine::{Checked, Refusal};

@@ -1,5 +1,6 @@
 // The entry points. Each judges what it is given for itself and ends: none has a `requires`. A refused call
 // changes nothing that it was lent.
+#![tactic(auto)]
 ghost use Rattle.std.specs.Prelude.{◌≡◌, ◌≤◌, length, take};
 ghost use Rattle.meaning.specs.Base.{in_front_of};
 ghost use Rattle.engine.specs.Answers.{Checks, Gives, Runs};
@@ -11,7 +12,7 @@ use processing::Outcome;
 use transaction::ReadOff;
 
 // The refusals, in the order in which they are tried.
-#[derive(Drop)]
+#[derive(Clone, Copy)]
 pub enum Refusal {
     Output,
     Room,
@@ -22,14 +23,14 @@ pub enum Refusal {
 }
 
 // What a book check answers: a refusal, or the rule count.
-#[derive(Drop)]
+#[derive(Clone, Copy)]
 pub enum Checked {
     Refused(Refusal),
     Rules(usize),
 }
 
 // What a run answers: a refusal, or the outcome and the number of considerations.
-#[derive(Drop)]
+#[derive(Clone, Copy)]
 pub enum Answer {
     Refused(Refusal),
     Ran { outcome: Outcome, count: usize },

@@ -1,4 +1,5 @@
 // The image: judged exactly, its rows read, and its head and its rows as bytes.
+#![tactic(auto)]
 ghost use Rattle.std.specs.Prelude.{◌≡◌, ◌+◌, ◌*◌, ◌≤◌, ◌<◌, length};
 ghost use Rattle.meaning.specs.Base.{in_front_of};
 ghost use Rattle.meaning.specs.Reading.{many, read_all};
@@ -7,7 +8,7 @@ ghost use Rattle.meaning.specs.ByteLayouts.{row_bytes};
 ghost use Rattle.image.specs.Images.{row_meant, row_or, image_or, Told, rise_in, head_bytes};
 
 // A row, its values as words in two's complement.
-#[derive(Drop)]
+#[derive(Clone, Copy)]
 pub struct Row {
     pub handle: u32,
     pub table: usize,
@@ -17,7 +18,7 @@ pub struct Row {
     pub v3: u32,
 }
 
-#[derive(Drop)]
+#[derive(Clone, Copy)]
 pub enum ImageRead {
     Is { next: u32, count: usize },
     Bad,

@@ -1,4 +1,5 @@
 // The log: judged exactly, and its operations read one after another.
+#![tactic(auto)]
 ghost use Rattle.std.specs.Prelude.{◌≡◌};
 ghost use Rattle.meaning.specs.Reading.{many, read_all};
 ghost use Rattle.meaning.specs.ByteLayouts as ByteLayouts;
@@ -8,7 +9,7 @@ ghost use Rattle.log.specs.Log.{operation_or, log_or};
 use words::End;
 
 // An operation, its values where they stand.
-#[derive(Drop)]
+#[derive(Clone, Copy)]
 pub enum Operation {
     Insert {
         table: usize,
@@ -24,13 +25,13 @@ pub enum Operation {
     },
 }
 
-#[derive(Drop)]
+#[derive(Clone, Copy)]
 pub enum OperationRead {
     Is { operation: Operation, next: usize },
     Bad,
 }
 
-#[derive(Drop)]
+#[derive(Clone, Copy)]
 pub enum LogRead {
     Is { count: usize },
     Bad,

@@ -1,5 +1,6 @@
 // Reads image, book and log from standard input, and prints what the run answers. It decides nothing: the
 // text is the library's, and only reading and writing are done here.
+#![tactic(auto)]
 use libc::{STDIN_FILENO, STDOUT_FILENO};
 
 // A byte more than an input may have, so that a longer one shows.

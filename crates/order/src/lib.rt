@@ -1,19 +1,20 @@
 // The total order of a book's rules: repeatedly the lowest-numbered rule not yet taken all of whose
 // predecessors are taken. Masks and taken rules are arrays by value while the order is built.
+#![tactic(auto)]
 ghost use Rattle.std.specs.Prelude.{◌≡◌, ◌≤◌, ◌<◌, take};
 ghost use Rattle.meaning.specs.Base.{first_with, up_from};
 ghost use Rattle.meaning.specs.Processing.TotalOrder.{order_of};
 ghost use Rattle.order.specs.Order.{order_meant, ready_meant, MaskOf, MasksOf, passed, all_passed, may_go};
 
 // The rules' numbers in total order at the front, where one was found.
-#[derive(Drop)]
+#[derive(Clone, Copy)]
 pub struct Order {
     pub found: bool,
     pub rules: [u8; 16],
 }
 
 // The rule to take next, where one is ready.
-#[derive(Drop)]
+#[derive(Clone, Copy)]
 enum ReadyRule {
     At(usize),
     Nothing,

@@ -1,5 +1,6 @@
 // What is read off a well-formed book once: where its rules stand, the own table of each active one, what each looks out for, and their
 // total order.
+#![tactic(auto)]
 ghost use Rattle.std.specs.Prelude.{◌≡◌, ◌≤◌, length};
 ghost use Rattle.meaning.specs.Reading.{got, many};
 ghost use Rattle.meaning.specs.ByteLayouts as ByteLayouts;
@@ -11,7 +12,7 @@ use order::Order;
 
 // `tables` has the own table of each rule, INACTIVE for a rule that is not active, and ABSENT past the last rule. `triggers` and `columns`
 // have those of each rule, and 0 past the last.
-#[derive(Drop)]
+#[derive(Clone, Copy)]
 pub struct Plan {
     pub count: usize,
     pub starts: [usize; 16],
@@ -26,7 +27,7 @@ pub const INACTIVE: u8 = 4;
 pub const ABSENT: u8 = 5;
 
 // Of a rule: its own table or INACTIVE, its triggers and columns, the rules that it precedes, and where it ends.
-#[derive(Drop)]
+#[derive(Clone, Copy)]
 struct Outline {
     table: u8,
     triggers: u8,

@@ -1,5 +1,6 @@
 // Processing: the log, then considerations of triggered rules until none is triggered, the limit is reached,
 // or the run ends.
+#![tactic(auto)]
 ghost use Rattle.std.specs.Prelude.{◌≡◌, ◌+◌, ◌≤◌, ◌<◌};
 ghost use Rattle.plan.specs.Plans.{rules_in, Planned};
 ghost use Rattle.trigger.specs.Triggers.{Numbers};
@@ -10,7 +11,7 @@ use changes::{Reason, Step};
 use plan::Plan;
 use trigger::Next;
 
-#[derive(Drop)]
+#[derive(Clone, Copy)]
 pub enum Outcome {
     Commit,
     RolledBack,
@@ -19,14 +20,14 @@ pub enum Outcome {
 }
 
 // The outcome, and the number of considerations.
-#[derive(Drop)]
+#[derive(Clone, Copy)]
 pub struct Ended {
     pub outcome: Outcome,
     pub count: usize,
 }
 
 // How many considerations were made, and how many the book allows.
-#[derive(Drop)]
+#[derive(Clone, Copy)]
 pub struct Budget {
     pub count: usize,
     pub limit: usize,

@@ -1,5 +1,6 @@
 // Queries: the rows that a source shows, the terms that hold of a row, and the rows that an action chooses.
 // Terms are asked one after another, each of the rows that are left; a match reads the columns of its source once.
+#![tactic(auto)]
 ghost use Rattle.std.specs.Prelude.{◌≡◌, ◌&&◌, ◌≤◌, ◌<◌, length, get_or};
 ghost use Rattle.meaning.specs.Base.{select, some_in};
 ghost use Rattle.meaning.specs.Values.{signed, compare as values_compare};
@@ -16,14 +17,14 @@ ghost use Rattle.query.specs.Columns.{with_pair, ColumnOf, ColumnsOf, wanted_of,
 use terms::{Query, Term, TermRead, Terms};
 
 // Places in a table of rows, rising: those of the rows that are still wanted.
-#[derive(Drop)]
+#[derive(Clone, Copy)]
 struct Picked {
     count: usize,
     places: [u8; 64],
 }
 
 // The pairs of a match, four of them: where there are fewer, the first stands for the rest too.
-#[derive(Drop)]
+#[derive(Clone, Copy)]
 struct Pairs {
     own0: usize,
     other0: usize,
@@ -36,7 +37,7 @@ struct Pairs {
 }
 
 // What the own columns of the pairs hold.
-#[derive(Drop)]
+#[derive(Clone, Copy)]
 struct Wanted {
     v0: u32,
     v1: u32,

@@ -1,4 +1,5 @@
 // The map of the working room: what stands where. Every table has its size at its head, and slots after it.
+#![tactic(auto)]
 
 // The next handle.
 pub const NEXT: usize = 0;
@@ -40,7 +41,7 @@ pub const ENTRIES: usize = 128;
 pub const RULES: usize = 16;
 
 // What a rule looks out for: its table, its triggers, its columns.
-#[derive(Drop)]
+#[derive(Clone, Copy)]
 pub struct Watch {
     pub table: usize,
     pub triggers: usize,

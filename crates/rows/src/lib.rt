@@ -1,5 +1,6 @@
 // The live rows, and the row operations on them: each is made on the rows and joins what was done since the
 // last joining.
+#![tactic(auto)]
 ghost use Rattle.std.specs.Prelude.{◌≡◌, ◌≤◌, ◌<◌, length};
 ghost use Rattle.words.specs.Words.{low32_at};
 ghost use Rattle.slots.specs.Slots.{table_at, Sorted, find_in};
@@ -10,14 +11,14 @@ ghost use Rattle.rows.specs.Rows.{space_for, inserted_slot, row_of, Inserted, Ca
 use slots::{Found, Slot};
 
 // A row operation that names a handle was made, or there is no such row.
-#[derive(Drop)]
+#[derive(Clone, Copy)]
 pub enum Looked {
     Made,
     NoSuchRow,
 }
 
 // Whether rows more have room, and handles.
-#[derive(Drop)]
+#[derive(Clone, Copy)]
 pub enum Space {
     Enough,
     Full,

@@ -1,13 +1,14 @@
 // Tables of fixed-size slots in a room of bytes that the caller lends, each with its size at its head.
 // Only these functions look at the room's bytes; everything above speaks of the lists that the tables
 // hold, and of frames that say what stays.
+#![tactic(auto)]
 ghost use Rattle.std.specs.Prelude.{◌≡◌, [], ◌++◌, ◌∷◌, ◌+◌, ◌*◌, ◌/◌, ◌%◌, ◌≤◌, ◌<◌, length, get_or, set, take, drop, replicate};
 ghost use Rattle.words.specs.Words.{low32_at};
 ghost use Rattle.slots.specs.Slots.{slot_at, table_at, table_bytes, slot_value, with_value, with_kind, with_marks, Stands, Holds};
 ghost use Rattle.slots.specs.Slots.{Stored, MovedUp, MovedDown, Copied, Sorted, insert_at, remove_at, place_in, hit, find_in, blank};
 
 // A row, an effect on a row, or a row operation: what each field means is the table's owner's to say.
-#[derive(Drop)]
+#[derive(Clone, Copy)]
 pub struct Slot {
     pub handle: u32,
     pub kind: u8,
@@ -20,7 +21,7 @@ pub struct Slot {
 }
 
 // The place of a slot in its table, or that there is none.
-#[derive(Drop)]
+#[derive(Clone, Copy)]
 pub enum Found {
     At(usize),
     Nothing,

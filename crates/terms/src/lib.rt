@@ -1,5 +1,6 @@
 // Terms, queries and expressions of a rule, decoded from the book where they stand. Judging a book and
 // evaluating it later read through the same functions.
+#![tactic(auto)]
 ghost use Rattle.std.specs.Prelude.{◌≡◌};
 ghost use Rattle.meaning.specs.Reading.{many};
 ghost use Rattle.meaning.specs.ByteLayouts as ByteLayouts;
@@ -9,7 +10,7 @@ ghost use Rattle.terms.specs.Terms.{source_fits, match_meant, term_or, terms_or,
 use words::End;
 
 // A term: a column against a constant or a column, or a match whose pairs stand at a place.
-#[derive(Drop)]
+#[derive(Clone, Copy)]
 pub enum Term {
     Constant {
         op: usize,
@@ -29,45 +30,45 @@ pub enum Term {
     },
 }
 
-#[derive(Drop)]
+#[derive(Clone, Copy)]
 pub enum TermRead {
     Is { term: Term, next: usize },
     Bad,
 }
 
 // A number of terms, and where the first stands.
-#[derive(Drop)]
+#[derive(Clone, Copy)]
 pub struct Terms {
     pub count: usize,
     pub first: usize,
 }
 
-#[derive(Drop)]
+#[derive(Clone, Copy)]
 pub enum TermsRead {
     Is { terms: Terms, next: usize },
     Bad,
 }
 
-#[derive(Drop)]
+#[derive(Clone, Copy)]
 pub struct Query {
     pub source: usize,
     pub terms: Terms,
 }
 
-#[derive(Drop)]
+#[derive(Clone, Copy)]
 pub enum QueryRead {
     Is { query: Query, next: usize },
     Bad,
 }
 
-#[derive(Drop)]
+#[derive(Clone, Copy)]
 pub enum Expression {
     Constant(u32),
     Column(usize),
     Sum { column: usize, constant: u32 },
 }
 
-#[derive(Drop)]
+#[derive(Clone, Copy)]
 pub enum ExpressionRead {
     Is { expression: Expression, next: usize },
     Bad,

@@ -1,4 +1,5 @@
 // An accepted run, from the start image to the image that is handed back.
+#![tactic(auto)]
 ghost use Rattle.std.specs.Prelude.{◌≡◌, ◌≤◌, length};
 ghost use Rattle.meaning.specs.Base.{in_front_of};
 ghost use Rattle.slots.specs.Slots.{Stands};
@@ -10,7 +11,7 @@ use plan::Plan;
 use processing::{Ended, Outcome};
 
 // What was read off image, book and log when they were judged.
-#[derive(Drop)]
+#[derive(Clone, Copy)]
 pub struct ReadOff {
     pub next: u32,
     pub rows: usize,

@@ -1,4 +1,5 @@
 // Whether a rule is triggered by what waits for it, and the first triggered rule in total order.
+#![tactic(auto)]
 ghost use Rattle.std.specs.Prelude.{◌≡◌, ◌≤◌, ◌<◌};
 ghost use Rattle.room.specs.Room.{Laid};
 ghost use Rattle.plan.specs.Plans.{Planned};
@@ -9,7 +10,7 @@ use plan::Plan;
 use room::Watch;
 
 // The first triggered rule, or that none is.
-#[derive(Drop)]
+#[derive(Clone, Copy)]
 pub enum Next {
     Rule(usize),
     Quiet,

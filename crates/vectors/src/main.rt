@@ -1,5 +1,6 @@
 // Runs cases M, N and O and the inputs of an independent implementation: for each file that an argument names
 // it prints the name and what the program says of the file's bytes. What must be printed stands in `stdout`.
+#![tactic(auto)]
 use libc::STDOUT_FILENO;
 
 // A byte more than an input may have, so that a longer one shows.

@@ -1,6 +1,7 @@
 // Bytes and numbers at places of a slice, and signed 32-bit values as words in two's complement.
 // It stands on no other code; every decoder and every evaluator reads through it. Contracts speak of
 // the specification's numbers: bytes and words of a list, values as integers.
+#![tactic(auto)]
 ghost use Rattle.std.specs.Prelude.{not, ◌≡◌, ◌+◌, ◌*◌, ◌/◌, ◌%◌, ◌^◌, ◌≤◌, ◌<◌, eqb, leb, length};
 ghost use Rattle.std.specs.Int.Bits.{bit_and};
 ghost use Rattle.std.proofs.lemmas.List.Edits.{sets};
@@ -10,14 +11,14 @@ ghost use Rattle.meaning.specs.Values.{signed, agree as values_agree, compare as
 ghost use Rattle.words.specs.Words.{word16_at, word32_at, low32_at, low_bytes4, Peeked, sum_meant};
 
 // The word of a sum, or that it leaves 32 bits.
-#[derive(Drop)]
+#[derive(Clone, Copy)]
 pub enum Sum {
     Is(u32),
     Out,
 }
 
 // Where what was read ends, or that it is malformed.
-#[derive(Drop)]
+#[derive(Clone, Copy)]
 pub enum End {
     At(usize),
     Short,
