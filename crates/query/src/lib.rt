@@ -383,7 +383,7 @@ fn constant_rows(
     requires stands { Stands base ROWS room.now }
     requires within { Within (table_at room.now base) rows }
     ensures { PicksOut (table_at room.now base)
-        (select (λ e. Values·compare (comparison op) (Queries.cell (row_meant e) column) (signed constant))
+        (select (λ e. values_compare (comparison op) (Queries.cell (row_meant e) column) (signed constant))
         (slots_of (table_at room.now base) rows)) result }
 {
     let mut places = rows.places;
@@ -412,7 +412,7 @@ fn column_rows(
     requires stands { Stands base ROWS room.now }
     requires within { Within (table_at room.now base) rows }
     ensures { PicksOut (table_at room.now base)
-        (select (λ e. Values·compare (comparison op) (Queries.cell (row_meant e) column) (Queries.cell (row_meant e) other))
+        (select (λ e. values_compare (comparison op) (Queries.cell (row_meant e) column) (Queries.cell (row_meant e) other))
         (slots_of (table_at room.now base) rows)) result }
 {
     let mut places = rows.places;
@@ -460,7 +460,7 @@ fn wanted_rows(room: &[u8], book: &[u8], triggers: usize, q: Query, base: usize)
     requires laid { Laid room.now }
     requires base_value { base ≡ base_of q.source }
     ensures { PicksOut (table_at room.now base)
-        (select (λ e. Chosen·shows q.source e && Queries.all_hold (transition_in room.now)
+        (select (λ e. chosen_shows q.source e && Queries.all_hold (transition_in room.now)
         (live_rows room.now) (terms_meant book.now triggers q.terms) (row_meant e))
         (table_at room.now base)) result }
 {

@@ -1,0 +1,39 @@
+-- `action::insert_from_query` meets its contract: rows are chosen and worked out aside; where a sum leaves 32 bits nothing changed that the
+-- room represents, else the values worked out are inserted.
+use borrow.Author.Tests.{not-true, not-false}
+use native.Mathlib.Omega.{arith}
+use lib.Count.{ones}
+use Rattle.book.specs.Books.{expressions_at}
+use Rattle.action.proofs.Aside.{aside-chosen, running-aside}
+use Rattle.action.proofs.Prepared.{prepared, query-fails, query-inserts}
+use Rattle.action.proofs.insert_from_query.Goals as goal
+
+pub choose-requires : goal.choose-requires
+choose-requires c = c.requires.0.represents.laid
+
+pub work_out_all-requires : goal.work_out_all-requires
+work_out_all-requires c =
+    ((aside-chosen c.requires.0.represents.laid c.choose.ensures).laid, omega arith)
+
+pub returns-then-not-work_out_all : goal.returns-then-not-work_out_all
+unfolding expressions_at ones
+returns-then-not-work_out_all c =
+    query-fails c.args.table c.requires.0.represents.laid
+    (prepared c.requires.0.represents.laid c.choose.ensures (rw (not-true c.work_out_all.result c.if-not-work_out_all.true-raw) at c.work_out_all.ensures))
+    (λ k. (c.type_inv.room k).fits)
+
+pub insert_all-requires : goal.insert_all-requires
+insert_all-requires c =
+    (
+      running-aside (prepared c.requires.0.represents.laid c.choose.ensures c.work_out_all.ensures).aside
+          (λ k. (c.type_inv.room k).fits) c.requires.0,
+      c.requires.1.0,
+    )
+
+pub returns : goal.returns
+unfolding expressions_at ones
+returns c =
+    query-inserts c.args.table c.requires.0.represents.laid c.requires.1.1
+    (prepared c.requires.0.represents.laid c.choose.ensures
+    (rw (not-false c.work_out_all.result c.if-not-work_out_all.false-raw) at c.work_out_all.ensures))
+    (λ k. (c.type_inv.room k).fits) c.insert_all.ensures

@@ -1,0 +1,25 @@
+-- `action::insert_values` meets its contract: the values are worked out aside as one row, which is then inserted.
+use Rattle.meaning.specs.ByteLayouts.{value}
+use Rattle.fields.specs.Fields.{values_at}
+use Rattle.action.proofs.Aside.{aside-worked, running-aside}
+use Rattle.action.proofs.Prepared.{acts-insert}
+use Rattle.action.proofs.Whole.{not_short}
+use Rattle.action.proofs.insert_values.Goals as goal
+
+pub work_out_values-requires : goal.work_out_values-requires
+unfolding values_at
+work_out_values-requires c =
+    (c.requires.0.represents.laid, not_short value 4 c.args.s.now c.args.values c.requires.1.1)
+
+pub insert_all-requires : goal.insert_all-requires
+insert_all-requires c =
+    (
+      running-aside (aside-worked c.requires.0.represents.laid c.work_out_values.ensures.works)
+          (λ k. (c.type_inv.room k).fits) c.requires.0,
+      c.requires.1.0,
+    )
+
+pub returns : goal.returns
+returns c =
+    acts-insert c.args.table c.requires.0.represents.laid c.work_out_values.ensures
+    (λ k. (c.type_inv.room k).fits) c.insert_all.ensures

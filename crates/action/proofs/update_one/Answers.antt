@@ -1,0 +1,67 @@
+-- `action::update_one` meets its contract: the row that is found, with the values, takes the place of the old one; where none is found
+-- nothing changed.
+use lib.Count.{ones}
+use mathlib.Core.Path.{sym, ◌∙◌}
+use Rattle.meaning.specs.ByteLayouts.{value}
+use Rattle.fields.specs.Fields.{values_at}
+use Rattle.slots.proofs.Frames.{Fits}
+use Rattle.room.proofs.Live.{live-sorted}
+use Rattle.action.proofs.One.{found_within, missing-update, update-can, updated-one}
+use Rattle.action.proofs.Whole.{not_short}
+use Rattle.action.proofs.update_one.Goals as goal
+
+pub find-found-requires : goal.find-found-requires
+find-found-requires c =
+    (c.requires.0.represents.laid.live, live-sorted c.requires.0.reached c.requires.0.represents)
+
+pub returns-in_default : goal.returns-in_default
+returns-in_default c =
+    missing-update c.requires.0 c.args.handle c.args.mask _ (sym c.find-found.ensures ∙ c.in_default.is)
+
+pub slot_at-old-requires : goal.slot_at-old-requires
+slot_at-old-requires c =
+    (
+      c.requires.0.represents.laid.live,
+      found_within c.requires.0 c.args.handle (sym c.find-found.ensures ∙ c.in-At.is),
+    )
+
+pub with_values-new-requires : goal.with_values-new-requires
+unfolding values_at
+with_values-new-requires c =
+    (c.requires.1.0, not_short value (ones c.args.mask) c.args.log.now c.args.values c.requires.1.1)
+
+pub update_row-requires : goal.update_row-requires
+update_row-requires c =
+    (
+      c.requires.0.represents.laid,
+      (
+        live-sorted c.requires.0.reached c.requires.0.represents,
+        update-can c.requires.0 c.args.handle (values_at c.args.log.now (ones c.args.mask) c.args.values) c.requires.1.0 c.narrow.ensures
+            (sym c.find-found.ensures ∙ c.in-At.is)
+            (rw c.slot_at-old.ensures c c.with_values-new.ensures) (fits c),
+      ),
+    )
+
+pub returns : goal.returns
+returns c =
+    updated-one c.requires.0 c.args.handle (values_at c.args.log.now (ones c.args.mask) c.args.values) c.requires.1.0 c.narrow.ensures
+    (sym c.find-found.ensures ∙ c.in-At.is)
+    (rw c.slot_at-old.ensures c c.with_values-new.ensures) (fits c)
+    c.update_row.result (λ k. (c.type_inv.room k).fits) c.update_row.ensures
+
+-- ?? -- the fields of the row that takes the place of the old one fit, as owning it tells
+-- ?? fits : (c : tie.After-with-values) → Fits c.with_values.result
+-- ?? fits c =
+-- ??     let own = c.with_values.type-inv.1.1 in
+-- ??     let bytes = own.1 in
+-- ??     let values = bytes.1.1.1 in
+-- ??     record {
+-- ??       handle = own.0.1;
+-- ??       kind = bytes.0.1;
+-- ??       mask = bytes.1.0.1;
+-- ??       table = bytes.1.1.0.1;
+-- ??       v0 = values.0.1;
+-- ??       v1 = values.1.0.1;
+-- ??       v2 = values.1.1.0.1;
+-- ??       v3 = values.1.1.1.0.1;
+-- ??     }

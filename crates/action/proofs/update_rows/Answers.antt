@@ -1,0 +1,47 @@
+-- `action::update_rows` meets its contract: rows are chosen and worked out aside; where a sum leaves 32 bits nothing changed that the room
+-- represents, else the rows worked out take the places of the chosen ones.
+use borrow.Author.Tests.{not-true, not-false}
+use Rattle.terms.specs.Terms.{terms_meant}
+use Rattle.book.specs.Books.{expressions_at}
+use Rattle.action.proofs.Aside.{aside-chosen, running-aside}
+use Rattle.action.proofs.Prepared.{table-chosen, taken-rows, prepared, update-fails, update-ready, query-updates}
+use Rattle.action.proofs.update_rows.Goals as goal
+
+pub choose-requires : goal.choose-requires
+choose-requires c = c.requires.0.represents.laid
+
+pub work_out_all-requires : goal.work_out_all-requires
+work_out_all-requires c =
+    ((aside-chosen c.requires.0.represents.laid c.choose.ensures).laid, c.requires.1.1.0)
+
+pub returns-then-not-work_out_all : goal.returns-then-not-work_out_all
+unfolding expressions_at
+returns-then-not-work_out_all c =
+    let made = table-chosen c.args.book.now c.args.triggers c.args.table c.args.terms c.requires.1.0 c.choose.ensures in
+    update-fails c.args.table (terms_meant c.args.book.now c.args.triggers c.args.terms) c.requires.0.represents.laid
+    (prepared c.requires.0.represents.laid made (rw (not-true c.work_out_all.result c.if-not-work_out_all.true-raw) at c.work_out_all.ensures))
+    (λ k. (c.type_inv.room k).fits)
+
+pub update_all-requires : goal.update_all-requires
+update_all-requires c =
+    let made = table-chosen c.args.book.now c.args.triggers c.args.table c.args.terms c.requires.1.0 c.choose.ensures in
+    let p =
+    prepared c.requires.0.represents.laid made
+    (rw (not-false c.work_out_all.result c.if-not-work_out_all.false-raw) at c.work_out_all.ensures) in (
+      running-aside p.aside (λ k. (c.type_inv.room k).fits) c.requires.0,
+      (
+        c.requires.1.1.0,
+        (
+          taken-rows c.requires.0 p.aside c.args.table (terms_meant c.args.book.now c.args.triggers c.args.terms) p.rows,
+          update-ready p,
+        ),
+      ),
+    )
+
+pub returns : goal.returns
+unfolding expressions_at
+returns c =
+    let made = table-chosen c.args.book.now c.args.triggers c.args.table c.args.terms c.requires.1.0 c.choose.ensures in
+    query-updates c.args.table (terms_meant c.args.book.now c.args.triggers c.args.terms) c.requires.0.represents.laid
+    (prepared c.requires.0.represents.laid made (rw (not-false c.work_out_all.result c.if-not-work_out_all.false-raw) at c.work_out_all.ensures))
+    (λ k. (c.type_inv.room k).fits) c.update_all.ensures

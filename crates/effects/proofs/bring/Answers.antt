@@ -1,0 +1,19 @@
+-- `effects::bring` meets its contract: before each turn the slots from `from` up to `i` stand at the end of the spare table.
+use Prim.Native.Nat.{◌-◌}
+use Rattle.effects.proofs.SpareTable.{bring-start, bring-pushes, bring-step, bring-done}
+use Rattle.effects.proofs.bring.Goals as goal
+
+pub loop-i-init : goal.loop-i-init
+loop-i-init c = bring-start _ _ _ c.requires.0 c.requires.1.0
+
+pub push_from-requires : goal.push_from-requires
+push_from-requires c =
+    bring-pushes c.requires.0 c.requires.1.1.0 c.loop-i.invariant c.requires.1.1.1 c.loop-i-test.true
+
+pub loop-i-preserved : goal.loop-i-preserved
+loop-i-preserved c =
+    bring-step c.requires.0 c.requires.1.1.0 c.loop-i.invariant c.loop-i-test.true c.push_from.ensures
+
+pub returns : goal.returns
+returns c =
+    bring-done c.requires.0 c.requires.1.1.0 c.loop-i.invariant c.loop-i-test.false

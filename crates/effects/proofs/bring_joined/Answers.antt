@@ -1,0 +1,48 @@
+-- `effects::bring_joined` meets its contract: the joined slot is pushed, unless the kinds, or the slot itself, say that nothing is left.
+use native.Mathlib.Omega.{arith}
+use Rattle.effects.proofs.SpareTable.{joined-nothing, joined-none, joined_free, joined-pushed}
+use Rattle.effects.proofs.bring_joined.Goals as goal
+
+pub kind_at-before-requires : goal.kind_at-before-requires
+kind_at-before-requires c =
+    (c.requires.0.waits, c.requires.1.0)
+
+pub kind_at-after-requires : goal.kind_at-after-requires
+kind_at-after-requires c =
+    (c.requires.0.stretch, c.requires.1.1.0)
+
+pub join_kind-requires : goal.join_kind-requires
+join_kind-requires c = (returns c).frame.len
+
+pub returns-then-join_kind-eq-NOTHING : goal.returns-then-join_kind-eq-NOTHING
+returns-then-join_kind-eq-NOTHING c =
+    joined-nothing c.args.room.now _ _ _ c.requires.0.spare c.kind_at-before.ensures c.kind_at-after.ensures
+    c.join_kind.ensures c.if-join_kind-eq-NOTHING.true
+
+pub slot_at-e-requires : goal.slot_at-e-requires
+slot_at-e-requires c =
+    (c.requires.0.waits, c.requires.1.0)
+
+pub slot_at-op-requires : goal.slot_at-op-requires
+slot_at-op-requires c =
+    (c.requires.0.stretch, c.requires.1.1.0)
+
+pub join_slot-x-requires : goal.join_slot-x-requires
+join_slot-x-requires c = (returns-2 c).frame.len
+
+pub returns-then-x-eq-NOTHING : goal.returns-then-x-eq-NOTHING
+returns-then-x-eq-NOTHING c =
+    joined-none c.args.room.now _ _ _ c.slot_at-e.ensures c.slot_at-op.ensures c.join_slot-x.ensures
+    c.requires.0.spare c.if-x-eq-NOTHING.true
+
+pub push-requires : goal.push-requires
+push-requires c =
+    let free =
+    joined_free c.args.room.now _ _ _ c.slot_at-e.ensures c.slot_at-op.ensures c.join_slot-x.ensures
+    c.requires.1.1.1 c.if-x-eq-NOTHING.false in
+    (c.requires.0.spare, (free, omega arith))
+
+pub returns : goal.returns
+returns c =
+    joined-pushed c.args.room.now _ _ _ c.slot_at-e.ensures c.slot_at-op.ensures c.join_slot-x.ensures
+    c.if-x-eq-NOTHING.false c.push.ensures

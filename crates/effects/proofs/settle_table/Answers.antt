@@ -1,0 +1,53 @@
+-- `effects::settle_table` meets its contract: before each turn nothing has changed, and what is left of the stretch has the same to join as
+-- all of it; at the first change both are woven from there on.
+use mathlib.Core.Logic.{⊎_elim}
+use Prim.Native.Nat.{◌-◌}
+use native.Mathlib.Omega.{arith}
+use borrow.Author.Tests.{not-false}
+use Rattle.slots.specs.Slots.{table_bytes}
+use Rattle.effects.proofs.SpareTable.{go-start, go-ready, go-reads, go-other, go-low, go_on, go-weaves, go-woven, go-done}
+use Rattle.effects.proofs.settle_table.Goals as goal
+
+pub size-m-requires : goal.size-m-requires
+unfolding table_bytes
+size-m-requires c = omega (arith, c.requires.0.stretch.fits)
+
+pub loop-j-init : goal.loop-j-init
+loop-j-init c = go-start _ _ c.requires.0
+
+pub slot_at-op-requires : goal.slot_at-op-requires
+slot_at-op-requires c =
+    ((go-ready c.loop-j.invariant c.requires.0).stretch, go-reads c.loop-j.invariant c.size-m.ensures c.loop-j-test.true)
+
+pub place_from-i-requires : goal.place_from-i-requires
+place_from-i-requires c =
+    ((go-ready c.loop-j.invariant c.requires.0).waits, go-low c.loop-j.invariant (go-reads c.loop-j.invariant c.size-m.ensures c.loop-j-test.true) c.slot_at-op.ensures)
+
+pub stays-requires : goal.stays-requires
+stays-requires c =
+    let ready = go-ready c.loop-j.invariant c.requires.0 in
+    (ready.waits, ready.sorted)
+
+pub weave-requires : goal.weave-requires
+weave-requires c =
+    go-weaves c.loop-j.invariant (go-reads c.loop-j.invariant c.size-m.ensures c.loop-j-test.true) c.slot_at-op.ensures c.place_from-i.ensures
+    c.requires.0 c.requires.1
+
+pub returns-then-not-stays : goal.returns-then-not-stays
+returns-then-not-stays c =
+    go-woven c.loop-j.invariant (go-reads c.loop-j.invariant c.size-m.ensures c.loop-j-test.true) c.slot_at-op.ensures
+    c.place_from-i.ensures c.weave.ensures
+
+pub loop-j-preserved : goal.loop-j-preserved
+loop-j-preserved c =
+    let reads = go-reads c.loop-j.invariant c.size-m.ensures c.loop-j-test.true in
+    ⊎_elim
+    (λ q.
+    rw q.6
+    (go_on c.loop-j.invariant reads c.slot_at-op.ensures q.2.ensures q.0.taken (q.4.ensures (not-false q.4.result q.5.left))))
+    (λ q. rw q.1 (go-other c.loop-j.invariant reads c.slot_at-op.ensures q.0.left))
+    c.if-op-table.branch
+
+pub returns : goal.returns
+returns c =
+    go-done c.loop-j.invariant c.requires.0 c.size-m.ensures c.loop-j-test.false

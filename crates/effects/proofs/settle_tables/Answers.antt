@@ -1,0 +1,36 @@
+-- `effects::settle_tables` meets its contract: before turn `k` what waits for the active rules below `k` is settled, and the others' tables
+-- are as they were.
+use mathlib.Core.Logic.{⊎_elim}
+use Prim.Native.Nat.{◌-◌, ◌<◌}
+use native.Mathlib.Omega.{arith}
+use Rattle.effects.proofs.AllTables.{upto-start, next-settles, next_fits_lem, turn-yes, turn-no, upto-ended, upto_done}
+use Rattle.effects.proofs.settle_tables.Goals as goal
+
+pub loop-k-init : goal.loop-k-init
+loop-k-init c = upto-start c.requires
+
+pub bounds-tables-k : goal.bounds-tables-k
+bounds-tables-k c = (returns c).frame.len
+
+pub returns-then-tables-k-gt-INACTIVE : goal.returns-then-tables-k-gt-INACTIVE
+returns-then-tables-k-gt-INACTIVE c =
+    upto-ended c.requires _ c.loop-k.invariant (omega arith) c.if-tables-k-gt-INACTIVE.true
+
+pub settle_table-requires : goal.settle_table-requires
+settle_table-requires c =
+    let within : c.loop-k.k < 16 = omega arith in (
+      next-settles c.requires _ c.loop-k.invariant within (omega (arith, c.if-tables-k-lt-INACTIVE.true)),
+      next_fits_lem c.requires _ c.loop-k.invariant within (omega (arith, c.if-tables-k-lt-INACTIVE.true)),
+    )
+
+pub loop-k-preserved : goal.loop-k-preserved
+loop-k-preserved c =
+    let within : c.loop-k.k < 16 = omega arith in
+    ⊎_elim
+    (λ w. rw w.5 (turn-yes c.requires _ c.loop-k.invariant within (omega (arith, w.0.taken)) w.2.ensures))
+    (λ w. rw w.1 (turn-no c.requires _ c.loop-k.invariant within w.0.left))
+    c.if-tables-k-lt-INACTIVE.branch
+
+pub returns : goal.returns
+returns c =
+    upto_done c.requires _ c.loop-k.invariant c.loop-k-test.false

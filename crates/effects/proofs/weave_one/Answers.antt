@@ -1,0 +1,47 @@
+-- `effects::weave_one` meets its contract: what waits with lower handles is brought, and then the effect, joined with a slot of its handle
+-- or as it is; what is woven and what is left are as they were.
+use native.Mathlib.Omega.{arith}
+use mathlib.Core.Path.{sym, ◌∙◌}
+use Rattle.effects.proofs.SpareTable.{one-low, one-brings, one-loom, one-joins, one-joined, one-pushes, one-new}
+use Rattle.effects.proofs.weave_one.Goals as goal
+
+pub handle_at-handle-requires : goal.handle_at-handle-requires
+handle_at-handle-requires c =
+    (c.requires.loom.stretch, c.requires.within)
+
+pub place_from-i-requires : goal.place_from-i-requires
+place_from-i-requires c =
+    (c.requires.loom.waits, one-low c.requires c.handle_at-handle.ensures)
+
+pub bring-requires : goal.bring-requires
+bring-requires c =
+    one-brings c.requires c.handle_at-handle.ensures c.place_from-i.ensures
+
+pub is_at-requires : goal.is_at-requires
+is_at-requires c =
+    (one-loom c.requires c.handle_at-handle.ensures c.place_from-i.ensures c.bring.ensures).waits
+
+pub bring_joined-requires : goal.bring_joined-requires
+bring_joined-requires c =
+    one-joins c.requires c.handle_at-handle.ensures c.place_from-i.ensures c.bring.ensures
+    (sym c.is_at.ensures ∙ c.if-is_at.true)
+
+pub overflow_add-result : goal.overflow_add-result
+overflow_add-result c =
+    let brings = one-brings c.requires c.handle_at-handle.ensures c.place_from-i.ensures in
+    omega (arith, brings.1.1.0, c.requires.loom.waits.size)
+
+pub returns-then-is_at : goal.returns-then-is_at
+returns-then-is_at c =
+    one-joined c.requires c.handle_at-handle.ensures c.place_from-i.ensures c.bring.ensures
+    (sym c.is_at.ensures ∙ c.if-is_at.true) c.bring_joined.ensures
+
+pub push_from-requires : goal.push_from-requires
+push_from-requires c =
+    one-pushes c.requires c.handle_at-handle.ensures c.place_from-i.ensures c.bring.ensures
+    (sym c.is_at.ensures ∙ c.if-is_at.false)
+
+pub returns : goal.returns
+returns c =
+    one-new c.requires c.handle_at-handle.ensures c.place_from-i.ensures c.bring.ensures
+    (sym c.is_at.ensures ∙ c.if-is_at.false) c.push_from.ensures

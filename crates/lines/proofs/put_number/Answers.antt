@@ -1,0 +1,13 @@
+-- `lines::put_number` meets its contract: the digits are at most ten, and what is copied of them is the number.
+use native.Mathlib.Omega.{arith}
+use Rattle.lines.proofs.Numbers.{ten-digits, puts-number}
+use Rattle.lines.proofs.put_number.Goals as goal
+
+pub put_bytes-requires : goal.put_bytes-requires
+put_bytes-requires c =
+    omega (arith, ten-digits c.args.n c.decimal-k.result c.requires.1 c.decimal-k.ensures.1.0, c.decimal-k.ensures.0.1)
+
+pub returns : goal.returns
+returns c =
+    puts-number c.args.n c.decimal-k.result c.requires.1 c.decimal-k.ensures.1.0 c.decimal-k.ensures.0.1 c.decimal-k.ensures.1.1
+    c.put_bytes.ensures

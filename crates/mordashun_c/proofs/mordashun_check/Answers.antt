@@ -1,0 +1,20 @@
+-- `mordashun_c::mordashun_check` meets its contract: the engine's answer is the specification's, and the word is that of the answer.
+use borrow.Author.Rules.{rules}
+use Rattle.engine.specs.Answers.{check_meant}
+use Rattle.mordashun_c.specs.Answered.{check_word}
+use Rattle.mordashun_c.proofs.Few.{checks-few}
+use Rattle.mordashun_c.proofs.Words.{check-answered}
+use Rattle.mordashun_c.proofs.mordashun_check.Goals as goal
+
+pub rules-requires : goal.rules-requires
+rules-requires c = checks-few (rw c.in-Rules.is at c.check.ensures)
+
+pub returns-in-Refused : goal.returns-in-Refused
+unfolding check_meant check_word
+returns-in-Refused c =
+    check-answered c.check.ensures (rw c.in-Refused.is c.refused.ensures)
+
+pub returns-in-Rules : goal.returns-in-Rules
+unfolding check_meant
+returns-in-Rules c =
+    check-answered c.check.ensures (rw c.in-Rules.is c.rules.ensures)

@@ -1,0 +1,59 @@
+-- `output::put_image` meets its contract. The loop's invariant is `Writing`: up to here the output holds the image's head and the rows that
+-- are done, and from here on what it held before the loop. The measure is the number of rows left.
+use mathlib.Core.Path.{◌≡◌, sym, ◌∙◌}
+use native.Mathlib.Omega.{arith}
+use lib.ListN.{length, length-take, length-drop}
+use Rattle.words.specs.Words.{low32_at}
+use Rattle.slots.specs.Slots.{table_at, table_bytes}
+use Rattle.slots.proofs.Tables.{table-length}
+use Rattle.room.specs.Room.{NEXT, LIVE, live_rows}
+use Rattle.output.proofs.Fronts.{writing_start, writing-length, writing_more, writing-done}
+use Rattle.output.proofs.put_image.Goals as goal
+
+pub size-n-requires : goal.size-n-requires
+unfolding table_bytes
+size-n-requires c = omega arith
+
+pub low32-requires : goal.low32-requires
+unfolding table_bytes
+low32-requires c = omega arith
+
+pub put_head-requires : goal.put_head-requires
+put_head-requires c = (omega arith, omega arith)
+
+pub loop-left-init : goal.loop-left-init
+loop-left-init c =
+    let all : length (table_at c.args.room.now LIVE) ≡ c.size-n.result = table-length c.args.room.now LIVE ∙ sym c.size-n.ensures in
+    writing_start (table_at c.args.room.now LIVE) (low32_at c.args.room.now NEXT) c.size-n.result c.args.out.now c.put_head.new.0 all
+    (omega (arith, c.size-n.ensures, c.requires.0.size)) c.requires.1
+    (rw c.low32.ensures at c.put_head.ensures)
+
+pub slice_bounds-put_row-count : goal.slice_bounds-put_row-count
+slice_bounds-put_row-count c = omega (arith, writing-length c.loop-left.invariant)
+
+pub slice_bounds-put_row-start : goal.slice_bounds-put_row-start
+slice_bounds-put_row-start c = omega (arith, writing-length c.loop-left.invariant)
+
+pub live_row-requires : goal.live_row-requires
+live_row-requires c =
+    (c.requires.0, omega (arith, c.loop-left.invariant.within, c.size-n.ensures))
+
+pub put_row-requires : goal.put_row-requires
+put_row-requires c = (
+  simp (length-take, length-drop) (omega (arith, writing-length c.loop-left.invariant)),
+  c.live_row.ensures.table,
+)
+
+pub loop-left-preserved : goal.loop-left-preserved
+loop-left-preserved c =
+    writing_more c.loop-left.invariant c.loop-left-test.true c.put_row.new.0
+    (rw c.live_row.ensures.is at c.put_row.ensures)
+
+pub returns : goal.returns
+unfolding live_rows
+returns c =
+    writing-done c.loop-left.invariant c.loop-left-test.false c.args.out.now
+    (rw c.low32.ensures at c.put_head.ensures)
+
+-- ?? same_length : tie.Need-same-length invariant-loop decreases-loop
+-- ?? same_length c = omega (arith, writing-length c.before.loop.invariant)

@@ -1,0 +1,15 @@
+-- `processing::next_rule` meets its contract: once what was done joined what waits, all is settled, and the rule that is found is the first
+-- triggered one.
+use Rattle.processing.proofs.Looking.{midway-settleable, looks}
+use Rattle.processing.proofs.next_rule.Goals as goal
+
+pub settle-requires : goal.settle-requires
+settle-requires c = midway-settleable c.requires.1.1.1
+
+pub first_triggered-requires : goal.first_triggered-requires
+first_triggered-requires c =
+    (c.settle.ensures.laid, (c.requires.0, (c.requires.1.0, c.requires.1.1.0)))
+
+pub returns : goal.returns
+returns c =
+    looks (λ i. (c.slice_known-2-1.given i).fits) c.settle.ensures c.first_triggered.ensures

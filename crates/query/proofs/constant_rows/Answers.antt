@@ -1,0 +1,53 @@
+-- `query::constant_rows` meets its contract: the places are narrowed in place to those of the rows of which the comparison holds.
+use borrow.Author.Rules.{rules}
+use mathlib.Core.Path.{◌≡◌, sym, ◌∙◌}
+use mathlib.Core.Logic.{⊎_elim}
+use Prim.Native.Nat.{◌-◌}
+use native.Mathlib.Omega.{arith}
+use lib.ListN.{length}
+use Rattle.meaning.specs.Values.{compare}
+use Rattle.slots.specs.Slots.{table_at}
+use Rattle.query.proofs.Laws.{cell-read}
+use Rattle.query.proofs.Narrowing.{narrowing-start, narrowing-few, narrowing-room, narrowing-stands, narrowing-yes}
+use Rattle.query.proofs.Narrowing.{narrowing-no, narrowing-done}
+use Rattle.query.proofs.constant_rows.Goals as goal
+
+pub loop-j-init : goal.loop-j-init
+loop-j-init c =
+    let long : length c.args.rows.places ≡ 64 = search rules in
+    narrowing-start _ _ c.requires.1 long
+
+pub bounds-places-j : goal.bounds-places-j
+bounds-places-j c = narrowing-few _ _ c.loop-j.invariant c.loop-j-test.true
+
+pub wide-requires : goal.wide-requires
+wide-requires c = tt
+
+pub value_at-v-requires : goal.value_at-v-requires
+value_at-v-requires c =
+    (c.requires.0, narrowing-stands _ _ _ c.loop-j.invariant c.loop-j-test.true c.wide.ensures.0)
+
+pub compare-requires : goal.compare-requires
+compare-requires c = tt
+
+pub bounds-places-j-then-compare : goal.bounds-places-j-then-compare
+bounds-places-j-then-compare c =
+    narrowing-few _ _ c.loop-j.invariant c.loop-j-test.true
+
+pub bounds-places-count : goal.bounds-places-count
+bounds-places-count c =
+    narrowing-room _ _ c.loop-j.invariant c.loop-j-test.true
+
+pub overflow_add-count : goal.overflow_add-count
+overflow_add-count c = omega (arith, array-write-places c)
+
+pub loop-j-preserved : goal.loop-j-preserved
+loop-j-preserved c =
+    let value = cell-read (table_at c.args.room.now c.args.base) c.args.column c.wide.ensures.0 c.value_at-v.ensures in
+    ⊎_elim
+    (λ w. rw (w.1, w.2) (narrowing-yes _ _ c.loop-j.invariant c.loop-j-test.true (rw (← value) (sym c.compare.ensures ∙ w.0.taken))))
+    (λ w. rw (w.1, w.2) (narrowing-no _ _ c.loop-j.invariant c.loop-j-test.true (rw (← value) (sym c.compare.ensures ∙ w.0.left))))
+    c.if-compare.branch
+
+pub returns : goal.returns
+returns c = narrowing-done _ _ c.loop-j.invariant c.loop-j-test.false

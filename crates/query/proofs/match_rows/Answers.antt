@@ -1,0 +1,43 @@
+-- `query::match_rows` meets its contract: a match with the rows that the source shows is one with the source's rows; with none of them it
+-- holds of no row.
+use native.Mathlib.Omega.{arith}
+use Rattle.slots.specs.Slots.{table_at}
+use Rattle.query.specs.Picks.{slots_of}
+use Rattle.query.proofs.Kept.{base-stands}
+use Rattle.query.proofs.Matches.{match-kept, none-every, none_any}
+use Rattle.query.proofs.match_rows.Goals as goal
+
+pub shown_rows-others-requires : goal.shown_rows-others-requires
+shown_rows-others-requires c =
+    base-stands c.requires.0 c.args.source c.base_of-from.ensures
+
+pub returns-then-negated : goal.returns-then-negated
+returns-then-negated c =
+    none-every _ _ c.base_of-from.ensures c.shown_rows-others.ensures c.if-others-eq0.true _ _ _ _ c.requires.1.1.0
+    c.if-negated.true
+
+pub returns-then-others-eq0 : goal.returns-then-others-eq0
+returns-then-others-eq0 c =
+    none_any _ _ c.base_of-from.ensures c.shown_rows-others.ensures c.if-others-eq0.true _ _ _ _ c.requires.1.1.0 _
+    c.if-negated.false
+
+pub pairs_at-requires : goal.pairs_at-requires
+pairs_at-requires c = c.requires.1.1.1
+
+pub matched-requires : goal.matched-requires
+matched-requires c =
+    (
+      c.requires.1.0,
+      (
+        c.requires.1.1.0,
+        (
+          base-stands c.requires.0 c.args.source c.base_of-from.ensures,
+          (c.shown_rows-others.ensures.within, omega (arith, c.if-others-eq0.false)),
+        ),
+      ),
+    )
+
+pub returns : goal.returns
+returns c =
+    match-kept _ _ c.base_of-from.ensures c.shown_rows-others.ensures c.pairs_at.ensures c.args.negated
+    (slots_of (table_at c.args.room.now c.args.base) c.args.rows) c.matched.ensures

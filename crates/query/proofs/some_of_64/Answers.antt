@@ -1,0 +1,25 @@
+-- `query::some_of_64` meets its contract. The loop's invariant: there are hits where a row before j has what is wanted, and no more than j.
+use mathlib.Core.Path.{◌≡◌}
+use mathlib.Core.Logic.{⊎_elim}
+use Prim.Native.Nat.{◌-◌}
+use native.Mathlib.Omega.{arith}
+use Rattle.query.proofs.Columns.{has_all, has-not-all, counting-start, counting-yes, counting-no}
+use Rattle.query.proofs.some_of_64.Goals as goal
+
+pub loop-j-init : goal.loop-j-init
+loop-j-init c = counting-start _
+
+pub overflow_add-hits : goal.overflow_add-hits
+overflow_add-hits c = ⊎_elim (λ w. omega arith) (λ w. omega arith) c.if-s0-j-eq0.branch
+
+pub loop-j-preserved : goal.loop-j-preserved
+loop-j-preserved c =
+    ⊎_elim
+    (λ w. rw w.1 (counting-yes c.loop-j.invariant c.loop-j-test.true (has_all _ _ _ _ _ _ w.0.taken)))
+    (λ w. rw w.1 (counting-no c.loop-j.invariant c.loop-j-test.true (has-not-all _ _ _ _ _ _ w.0.left)))
+    c.if-s0-j-eq0.branch
+
+pub returns : goal.returns
+returns c =
+    let all : c.loop-j.j ≡ 64 = omega (arith, c.loop-j.invariant.most) in
+    rw (← all) c.loop-j.invariant.is

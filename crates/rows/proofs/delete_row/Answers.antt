@@ -1,0 +1,28 @@
+-- `rows::delete_row` meets its contract: the row that is found goes, and the delete, with the row as it was, joins what was
+-- done since the last joining.
+use mathlib.Core.Path.{refl, sym, ◌∙◌}
+use Rattle.rows.proofs.Turning.{found_within, found-takes, found-turned, found-deleted}
+use Rattle.rows.proofs.delete_row.Goals as goal
+
+pub returns-in_default : goal.returns-in_default
+returns-in_default c =
+    rw (sym c.find-found.ensures ∙ c.in_default.is) refl
+
+pub slot_at-old-requires : goal.slot_at-old-requires
+slot_at-old-requires c =
+    (c.requires.0.live, found_within c.args.room.now _ _ c.find-found.ensures c.in-At.is)
+
+pub remove_at-requires : goal.remove_at-requires
+remove_at-requires c =
+    (c.requires.0.live, found_within c.args.room.now _ _ c.find-found.ensures c.in-At.is)
+
+pub join-requires : goal.join-requires
+join-requires c =
+    found-takes c.args.room.now _ _ c.find-found.ensures c.in-At.is 2 _ c.remove_at.ensures
+    c.slot_at-old.ensures c.as_effect.ensures c.requires.1.1
+
+pub returns : goal.returns
+returns c =
+    found-deleted c.args.room.now _ _ c.find-found.ensures c.in-At.is
+    (found-turned c.args.room.now _ _ c.find-found.ensures c.in-At.is 2 _ c.remove_at.ensures
+    c.slot_at-old.ensures c.as_effect.ensures c.requires.0 c.join.ensures)

@@ -1,0 +1,28 @@
+-- `rows::update_row` meets its contract: the new row takes the place of the one that is found, and the update, with the old row, joins
+-- what was done since the last joining.
+use mathlib.Core.Path.{refl, sym, ◌∙◌}
+use Rattle.rows.proofs.Turning.{found_within, found-takes, found-turned, found-updated}
+use Rattle.rows.proofs.update_row.Goals as goal
+
+pub returns-in_default : goal.returns-in_default
+returns-in_default c =
+    rw (sym c.find_near-found.ensures ∙ c.in_default.is) refl
+
+pub slot_at-old-requires : goal.slot_at-old-requires
+slot_at-old-requires c =
+    (c.requires.0.live, found_within c.args.room.now _ _ c.find_near-found.ensures c.in-At.is)
+
+pub put_at-requires : goal.put_at-requires
+put_at-requires c =
+    (c.requires.0.live, found_within c.args.room.now _ _ c.find_near-found.ensures c.in-At.is)
+
+pub join-requires : goal.join-requires
+join-requires c =
+    found-takes c.args.room.now _ _ c.find_near-found.ensures c.in-At.is 3 _ c.put_at.ensures
+    c.slot_at-old.ensures c.as_effect.ensures c.requires.1.1
+
+pub returns : goal.returns
+returns c =
+    found-updated c.args.room.now _ _ c.find_near-found.ensures c.in-At.is _ c.args.new
+    (found-turned c.args.room.now _ _ c.find_near-found.ensures c.in-At.is 3 _ c.put_at.ensures
+    c.slot_at-old.ensures c.as_effect.ensures c.requires.0 c.join.ensures)

@@ -1,0 +1,20 @@
+-- `slots::find` meets its contract: the handle can only be at its place, and the tests are those of the definition.
+use mathlib.Core.Path.{sym, ◌∙◌}
+use native.Mathlib.Omega.{arith}
+use Rattle.slots.proofs.Tables.{table-length, table-handle}
+use Rattle.slots.proofs.Order.{find-yes, find-other, find-end}
+use Rattle.slots.proofs.find.Goals as goal
+
+pub returns-then-low32-handle : goal.returns-then-low32-handle
+returns-then-low32-handle c =
+    find-yes _ _ _ c.place-i.ensures (omega (arith, table-length c.args.room.now c.args.base))
+    (table-handle _ _ _ (omega arith) ∙ sym c.low32.ensures ∙ c.if-low32-handle.true)
+
+pub returns-else-low32-handle : goal.returns-else-low32-handle
+returns-else-low32-handle c =
+    find-other _ _ _ c.place-i.ensures (omega (arith, table-length c.args.room.now c.args.base))
+    (λ q. c.if-low32-handle.false (c.low32.ensures ∙ sym (table-handle _ _ _ (omega arith)) ∙ q))
+
+pub returns-else-i-size : goal.returns-else-i-size
+returns-else-i-size c =
+    find-end _ _ _ c.place-i.ensures (omega (arith, table-length c.args.room.now c.args.base))

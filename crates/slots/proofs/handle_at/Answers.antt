@@ -1,0 +1,7 @@
+-- `slots::handle_at` meets its contract: the handle stands in the first word of the slot at the place.
+use mathlib.Core.Path.{sym, ◌∙◌}
+use Rattle.slots.proofs.Tables.{table-handle}
+use Rattle.slots.proofs.handle_at.Goals as goal
+
+pub returns : goal.returns
+returns c = c.low32.ensures ∙ sym (table-handle _ _ _ c.requires.1)

@@ -1,0 +1,20 @@
+-- `slots::is_at` meets its contract: the handle stands in the first word of the slot at the place.
+use borrow.Author.Tests.{lt-ltb, le-ltb}
+use native.Mathlib.Omega.{arith}
+use Prim.Native.Nat.{◌≤◌, ◌<◌}
+use lib.ListN.{length}
+use Rattle.slots.specs.Slots.{table_at, hit}
+use Rattle.slots.proofs.Tables.{table-length, table-handle}
+use Rattle.slots.proofs.is_at.Goals as goal
+
+pub returns-then-i-size : goal.returns-then-i-size
+unfolding hit
+returns-then-i-size c =
+    let within : c.args.i < length (table_at c.args.room.now c.args.base) = omega (arith, table-length c.args.room.now c.args.base) in
+    rw (lt-ltb _ _ within, table-handle c.args.room.now c.args.base c.args.i (omega arith), c.low32.ensures)
+
+pub returns : goal.returns
+unfolding hit
+returns c =
+    let past : length (table_at c.args.room.now c.args.base) ≤ c.args.i = omega (arith, table-length c.args.room.now c.args.base) in
+    rw (le-ltb _ _ past)

@@ -1,0 +1,25 @@
+-- `slots::place` meets its contract: before each turn every slot before `lo` is below the handle, and every slot from `hi` on is not.
+use mathlib.Core.Path.{sym, ◌∙◌}
+use Prim.Native.Nat.{◌-◌}
+use native.Mathlib.Omega.{arith}
+use Rattle.slots.specs.Slots.{table_bytes}
+use Rattle.slots.proofs.Tables.{table-length, table-handle}
+use Rattle.slots.proofs.Loops.{seek-start, seek-left, seek-right, seek-done}
+use Rattle.slots.proofs.place.Goals as goal
+
+pub loop-lo-init : goal.loop-lo-init
+loop-lo-init c = rw c.size-hi.ensures (seek-start _ _ _ (table-length _ _))
+
+pub loop-lo-preserved-then-low32-handle : goal.loop-lo-preserved-then-low32-handle
+loop-lo-preserved-then-low32-handle c =
+    seek-right _ _ _ _ c.loop-lo.invariant _ _ c.requires.1 (omega arith)
+    (c.low32.ensures ∙ sym (table-handle _ _ _ (omega arith))) c.if-low32-handle.true
+
+pub loop-lo-preserved : goal.loop-lo-preserved
+loop-lo-preserved c =
+    seek-left _ _ _ _ c.loop-lo.invariant _ _ c.requires.1 (omega arith) (omega arith)
+    (c.low32.ensures ∙ sym (table-handle _ _ _ (omega arith))) c.if-low32-handle.false
+
+pub returns : goal.returns
+unfolding table_bytes
+returns c = seek-done _ _ _ _ c.loop-lo.invariant c.loop-lo-test.false

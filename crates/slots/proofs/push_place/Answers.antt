@@ -1,0 +1,23 @@
+-- `slots::push_place` meets its contract: the slot's words are copied after the last, with the place as the top byte of the second word,
+-- and then the size counts it.
+use Prim.Native.Nat.{◌%◌}
+use native.Mathlib.Omega.{arith}
+use Rattle.slots.specs.Slots.{table_bytes}
+use Rattle.slots.proofs.Frames.{word-put}
+use Rattle.slots.proofs.Tables.{marks-kind, pushed}
+use Rattle.slots.proofs.push_place.Goals as goal
+
+pub copy-requires : goal.copy-requires
+unfolding table_bytes
+copy-requires c = (omega arith, omega arith)
+
+pub put_low32-requires : goal.put_low32-requires
+unfolding table_bytes
+put_low32-requires c = (returns c).frame.len
+
+pub returns : goal.returns
+unfolding table_bytes
+returns c =
+    rw (← marks-kind c.args.room.now c.args.from c.args.i c.requires.1.1.1.1 c.low32.ensures (c.args.i % 256) (omega arith))
+    (pushed _ _ _ c.requires.0 c.size-end.ensures (omega arith) c.copy.ensures
+    (word-put _ _ (omega arith) (omega arith) c.put_low32.ensures))

@@ -1,0 +1,22 @@
+-- `slots::store` meets its contract: six words one after another are the slot's twenty-four bytes, and each word is read as it was
+-- written. That a field of the slot fits its type is what owning the slot tells (`own`, field by field).
+use native.Mathlib.Omega.{arith}
+use Rattle.slots.proofs.Frames.{Fits, slot-put}
+use Rattle.slots.proofs.store.Goals as goal
+
+pub returns : goal.returns
+returns c =
+    let fits : Fits _ =
+    record {
+      handle = c.well-formed.1.1.0.1.1.0.1;
+      kind = c.well-formed.1.1.0.1.1.1.0.1;
+      mask = c.well-formed.1.1.0.1.1.1.1.0.1;
+      table = c.well-formed.1.1.0.1.1.1.1.1.0.1;
+      v0 = c.well-formed.1.1.0.1.1.1.1.1.1.0.1;
+      v1 = c.well-formed.1.1.0.1.1.1.1.1.1.1.0.1;
+      v2 = c.well-formed.1.1.0.1.1.1.1.1.1.1.1.0.1;
+      v3 = c.well-formed.1.1.0.1.1.1.1.1.1.1.1.1.0.1;
+    } in
+    slot-put _ _ _ fits (omega arith) c.requires
+    c.put_low32.ensures c.put_low32-2.ensures c.put_low32-3.ensures c.put_low32-4.ensures c.put_low32-5.ensures c.put_low32-6.ensures
+    c.joined.ensures.0 c.joined.ensures.1 c.joined.ensures.2

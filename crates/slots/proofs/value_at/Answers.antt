@@ -1,0 +1,11 @@
+-- `slots::value_at` meets its contract: the values stand in the last four words of the slot at the place, and there are no others.
+use mathlib.Core.Path.{◌∙◌}
+use native.Mathlib.Omega.{arith}
+use Rattle.slots.proofs.Tables.{table-value, no_value}
+use Rattle.slots.proofs.value_at.Goals as goal
+
+pub returns-then-column-lt4 : goal.returns-then-column-lt4
+returns-then-column-lt4 c = c.low32.ensures ∙ table-value _ _ _ _ (omega arith) (omega arith)
+
+pub returns : goal.returns
+returns c = no_value _ _ (omega arith)

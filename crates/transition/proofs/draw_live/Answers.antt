@@ -1,0 +1,25 @@
+-- `transition::draw_live` meets its contract: the slot that is found among the live rows, if one is, is that of the row that is asked for.
+use mathlib.Core.Path.{sym, ◌∙◌}
+use native.Mathlib.Omega.{arith}
+use Rattle.transition.proofs.Lookups.{live_below, live-found, live-nowhere}
+use Rattle.transition.proofs.Effects.{nothing-added}
+use Rattle.transition.proofs.draw_live.Goals as goal
+
+pub returns-in_default : goal.returns-in_default
+returns-in_default c =
+    rw (live-nowhere _ _ _ c.requires.0.sorted (sym c.find_near-found.ensures ∙ c.in_default.is))
+    (nothing-added c.requires.1.stands)
+
+pub draw_held-requires : goal.draw_held-requires
+draw_held-requires c =
+    let here = sym c.find_near-found.ensures ∙ c.in-At.is in
+    let room = rw (live-found _ _ _ c.requires.0.sorted here) at c.requires.1 in
+    (c.requires.0.stands, (live_below _ _ here, room))
+
+pub overflow_add-result : goal.overflow_add-result
+overflow_add-result c =
+    omega (arith, live_below _ _ (sym c.find_near-found.ensures ∙ c.in-At.is), c.requires.0.stands.size)
+
+pub returns : goal.returns
+returns c =
+    rw (live-found _ _ _ c.requires.0.sorted (sym c.find_near-found.ensures ∙ c.in-At.is)) c.draw_held.ensures

@@ -1,0 +1,7 @@
+-- `words::low32` meets its contract: the number of four bytes, the last one first.
+use Rattle.words.specs.Words.{low32_at}
+use Rattle.words.proofs.low32.Goals as goal
+
+pub returns : goal.returns
+unfolding low32_at
+returns c = c.join4.ensures

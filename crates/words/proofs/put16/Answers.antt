@@ -1,0 +1,13 @@
+-- `words::put16` meets its contract: a store keeps the length, and the two stores are those of the two bytes.
+use lib.ListN.{length-set}
+use native.Mathlib.Numerals.{add-one}
+use native.Mathlib.Omega.{arith}
+use Rattle.meaning.specs.ByteLayouts.{bytes2}
+use Rattle.words.proofs.put16.Goals as goal
+
+pub overflow_add-s : goal.overflow_add-s
+overflow_add-s c = simp length-set (omega arith)
+
+pub returns : goal.returns
+unfolding bytes2
+returns c = rw add-one

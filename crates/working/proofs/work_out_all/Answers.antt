@@ -1,0 +1,39 @@
+-- `working::work_out_all` meets its contract. The loop's invariant: the rows worked out so far, then what those that are left give, are
+-- what all chosen rows give; the room is as it was but for the rows worked out.
+use borrow.Author.Tests.{not-true, not-false}
+use native.Mathlib.Omega.{arith}
+use Rattle.slots.specs.Slots.{table_bytes}
+use Rattle.working.proofs.Rows.{chosen-stands, turning-start, turning-done, turning-failed, turning-stands, turning-sized}
+use Rattle.working.proofs.Rows.{turning-room, turning-ready, turning-works, turning-more, turning-out}
+use Rattle.working.proofs.work_out_all.Goals as goal
+
+pub size-n-requires : goal.size-n-requires
+unfolding table_bytes
+size-n-requires c =
+    omega (arith, (chosen-stands c.requires.0 c.empty.ensures).fits)
+
+pub loop-left-init : goal.loop-left-init
+loop-left-init c =
+    turning-start c.requires.0 c.empty.ensures _ _ c.size-n.ensures
+
+pub push_from-requires : goal.push_from-requires
+push_from-requires c =
+    (c.loop-left.invariant.stands, (turning-room c.loop-left.invariant c.loop-left-test.true, (omega arith, (turning-stands c.loop-left.invariant, omega (arith, turning-sized c.loop-left.invariant)))))
+
+pub work_out_row-requires : goal.work_out_row-requires
+work_out_row-requires c =
+    (turning-ready c.loop-left.invariant c.loop-left-test.true c.push_from.ensures, c.requires.1)
+
+pub returns-then-not-work_out_row : goal.returns-then-not-work_out_row
+returns-then-not-work_out_row c =
+    turning-failed c.requires.0 c.empty.ensures _ _ (turning-works c.loop-left.invariant c.loop-left-test.true c.push_from.ensures c.work_out_row.ensures)
+    (turning-out c.loop-left.invariant c.loop-left-test.true c.push_from.ensures c.work_out_row.ensures (not-true c.work_out_row.result c.if-not-work_out_row.true-raw))
+
+pub loop-left-preserved : goal.loop-left-preserved
+loop-left-preserved c =
+    turning-more c.loop-left.invariant c.loop-left-test.true c.push_from.ensures c.work_out_row.ensures
+    (not-false c.work_out_row.result c.if-not-work_out_row.false-raw)
+
+pub returns : goal.returns
+returns c =
+    turning-done c.requires.0 c.empty.ensures _ _ c.loop-left.invariant c.loop-left-test.false

@@ -1,0 +1,29 @@
+-- `working::work_out_values` meets its contract: the emptied table takes one row, which has the four values.
+use lib.Count.{ones}
+use mathlib.Core.Path.{ap, ◌∙◌}
+use native.Mathlib.Omega.{arith}
+use Rattle.meaning.specs.Covers.{Row}
+use Rattle.words.specs.Words.{Bytes}
+use Rattle.slots.specs.Slots.{table_bytes}
+use Rattle.working.proofs.Values.{four-values}
+use Rattle.working.proofs.Rows.{one-row, room-for-one}
+use Rattle.working.proofs.work_out_values.Goals as goal
+
+pub empty-requires : goal.empty-requires
+unfolding table_bytes
+empty-requires c = omega arith
+
+pub with_values-requires : goal.with_values-requires
+unfolding ones
+with_values-requires c =
+    (omega arith, c.requires.1)
+
+pub push-requires : goal.push-requires
+push-requires c =
+    (c.empty.ensures.stands, (room-for-one c.requires.0 c.empty.ensures, omega arith))
+
+pub returns : goal.returns
+returns c =
+    let bytes : Bytes c.args.s.now = λ i. (c.type_inv.s i).fits in
+    one-row c.requires.0 c.empty.ensures c.with_values.result c.push.ensures
+    (ap (λ (r : Row). r.values) c.with_values.ensures ∙ four-values c.args.s.now bytes c.args.at c.requires.1 _)
