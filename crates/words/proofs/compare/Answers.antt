@@ -37,5 +37,5 @@ returns-in-4 c =
 pub returns-in_default : goal.returns-in_default
 unfolding values_compare comparison
 returns-in_default c =
-    rw (ne_eqb _ 0 c.in_default.rest.0.0.0.0.1, ne_eqb _ 1 c.in_default.rest.0.0.0.1, ne_eqb _ 2 c.in_default.rest.0.0.1, ne_eqb _ 3 c.in_default.rest.0.1, ne_eqb _ 4 c.in_default.rest.1)
+    rw (ne_eqb _ 0 c.in_default.in_default-own.rest.0.0.0.0.1, ne_eqb _ 1 c.in_default.in_default-own.rest.0.0.0.1, ne_eqb _ 2 c.in_default.in_default-own.rest.0.0.1, ne_eqb _ 3 c.in_default.in_default-own.rest.0.1, ne_eqb _ 4 c.in_default.in_default-own.rest.1)
     (rw (signed_le c.args.b c.args.a (search rules) (search rules), c.lifted-x.ensures, c.lifted-y.ensures))

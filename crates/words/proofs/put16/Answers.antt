@@ -5,9 +5,6 @@ use native.Mathlib.Omega.{arith}
 use Rattle.meaning.specs.ByteLayouts.{bytes2}
 use Rattle.words.proofs.put16.Goals as goal
 
-pub overflow_add-s : goal.overflow_add-s
-overflow_add-s c = simp length-set (omega arith)
-
 pub returns : goal.returns
 unfolding bytes2
 returns c = rw add-one

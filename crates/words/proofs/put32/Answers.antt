@@ -5,15 +5,6 @@ use native.Mathlib.Omega.{arith}
 use Rattle.meaning.specs.ByteLayouts.{bytes4}
 use Rattle.words.proofs.put32.Goals as goal
 
-pub overflow_add-s : goal.overflow_add-s
-overflow_add-s c = simp length-set (omega arith)
-
-pub overflow_add-s-2 : goal.overflow_add-s-2
-overflow_add-s-2 c = simp length-set (omega arith)
-
-pub overflow_add-s-3 : goal.overflow_add-s-3
-overflow_add-s-3 c = simp length-set (omega arith)
-
 pub returns : goal.returns
 unfolding bytes4
 returns c = rw (add-one, add-two, add-three)
