@@ -33,9 +33,6 @@ bounds-taken-j c =
     c.in-At.j
     (found_at _ _ _ c.in-At.is c.next_ready-next.ensures)
 
-pub overflow_cast-rules : goal.overflow_cast-rules
-overflow_cast-rules c = omega (arith, array-write-taken c)
-
 pub loop-left-preserved : goal.loop-left-preserved
 loop-left-preserved c =
     one-taken
