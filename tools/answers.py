@@ -216,7 +216,7 @@ def aligned(args, needs, by_name):
 TRIVIAL = re.compile(r"\(λ c( κs)?\. (search rules|omega arith)\)$")
 
 
-def turned(path, fun, crate, name):
+def turned(path, fun, crate, name, whole=False):
     text = open(path).read()
     head, uses, decls = blocks(text)
     spec = decls[-1]
@@ -292,7 +292,7 @@ def turned(path, fun, crate, name):
             bd = aliases(mm.group(2), fun, place, vs[0]) if vs else mm.group(2)
             answers.append(comment + [f"pub {new} : goal.{new}"] + opening + [f"{new}{' ' + vs[0] if vs else ''}{bd}"])
         elif arg.startswith("("):
-            if TRIVIAL.match(arg) and not (opened and new.startswith("returns")):
+            if TRIVIAL.match(arg) and not whole and not (opened and new.startswith("returns")):
                 continue
             mm = re.match(r"\(λ (c(?: [\w']+)?)\.\s*(.*)\)$", arg, re.S)
             if not mm:
@@ -306,6 +306,8 @@ def turned(path, fun, crate, name):
         if k not in used:
             print(f"{path}: {k} answers nothing")
             answers.append(["-- ?? " + l for l in d])
+    if whole:
+        return {re.search(r"goal\.(\S+)", "\n".join(a)).group(1): "\n".join(a) for a in answers if "goal." in "\n".join(a)}, uses
     where = os.path.dirname(path)
     at = f"Rattle.{crate}.proofs.{name}"
     uses = [u for u in uses if not re.search(r"\.(Statement|Tie)(\.| )", u)]
@@ -363,4 +365,5 @@ def main():
                 print(f"{folder}: {said}")
 
 
-main()
+if __name__ == "__main__":
+    main()

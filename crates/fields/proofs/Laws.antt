@@ -6,7 +6,7 @@ use mathlib.Core.List.{List}
 use mathlib.Core.Option.{none, some}
 use Prim.Native.Nat.{ℕ, zero, suc, ◌+◌, ◌-◌, ◌*◌, ◌≤◌, ◌<◌}
 use native.Mathlib.Omega.{arith}
-use borrow.Author.Tests.{not-true, not-false, leb-true, leb-false, eqb-true, eqb-false, eq-eqb, ne_eqb, ltb-true, ltb-false}
+use borrow.Author.Tests.{leb-true, leb-false, eqb-true, eqb-false, eq-eqb, ne_eqb, ltb-true, ltb-false}
 use lib.Dec.{leb, ltb, eqb}
 use lib.ListN.{length}
 use Rattle.meaning.specs.Base.{if◌then◌else◌}
@@ -21,18 +21,18 @@ use Rattle.fields.specs.Fields.{well_framed, values_at}
 
 -- ---- What a test says that the code negates
 
-pub passed : {t r : Bool} → r ≡ t → not r ≡ false → t ≡ true
-passed {t} {r} e h = sym e ∙ not-false r h
+pub passed : {t r : Bool} → r ≡ t → r ≡ true → t ≡ true
+passed e h = sym e ∙ h
 
-pub failed : {t r : Bool} → r ≡ t → not r ≡ true → t ≡ false
-failed {t} {r} e h = sym e ∙ not-true r h
+pub failed : {t r : Bool} → r ≡ t → r ≡ false → t ≡ false
+failed e h = sym e ∙ h
 
 -- whether the bytes up to a place stand in the slice, as `words::has` says
 module _ (s : List ℕ) (end : ℕ) {r : Bool} (e : r ≡ leb end (length s)) where
-  pub stands : not r ≡ false → end ≤ length s
+  pub stands : r ≡ true → end ≤ length s
   stands h = leb-true end (length s) (passed e h)
 
-  pub stands-not : not r ≡ true → length s < end
+  pub stands-not : r ≡ false → length s < end
   stands-not h = leb-false end (length s) (failed e h)
 
 -- ---- Values in a row

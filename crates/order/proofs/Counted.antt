@@ -43,7 +43,7 @@ module _ {B : Type 0} {f : List ℕ → B} {n : ℕ} where
     none-to-go h = sym (c.same ∙ ap f (none_left n left h))
 
 -- a loop that asks whether all pass, and one that looks for the first that passes
-module _ {p : ℕ → Bool} {n left : ℕ} where
+module _ (p : ℕ → Bool) {n left : ℕ} where
   pub all-go-on : Counted (all p) n left → 0 < left → p (n - left) ≡ true → Counted (all p) n (left - 1)
   all-go-on c h e = goes_on_lem c h (λ rest. rw e)
 

@@ -19,7 +19,7 @@ pub returns-then-not-work_out_all : goal.returns-then-not-work_out_all
 unfolding expressions_at ones
 returns-then-not-work_out_all c =
     query-fails c.args.table c.requires.0.represents.laid
-    (prepared c.requires.0.represents.laid c.choose.ensures (rw (not-true c.work_out_all.result c.if-not-work_out_all.true-raw) at c.work_out_all.ensures))
+    (prepared c.requires.0.represents.laid c.choose.ensures (rw c.if-not-work_out_all.true at c.work_out_all.ensures))
     (λ k. (c.type_inv.room k).fits)
 
 pub insert_all-requires : goal.insert_all-requires
@@ -35,5 +35,5 @@ unfolding expressions_at ones
 returns c =
     query-inserts c.args.table c.requires.0.represents.laid c.requires.1.1
     (prepared c.requires.0.represents.laid c.choose.ensures
-    (rw (not-false c.work_out_all.result c.if-not-work_out_all.false-raw) at c.work_out_all.ensures))
+    (rw c.if-not-work_out_all.false at c.work_out_all.ensures))
     (λ k. (c.type_inv.room k).fits) c.insert_all.ensures

@@ -19,7 +19,7 @@ unfolding expressions_at
 returns-then-not-work_out_all c =
     let made = table-chosen c.args.book.now c.args.triggers c.args.table c.args.terms c.requires.1.0 c.choose.ensures in
     update-fails c.args.table (terms_meant c.args.book.now c.args.triggers c.args.terms) c.requires.0.represents.laid
-    (prepared c.requires.0.represents.laid made (rw (not-true c.work_out_all.result c.if-not-work_out_all.true-raw) at c.work_out_all.ensures))
+    (prepared c.requires.0.represents.laid made (rw c.if-not-work_out_all.true at c.work_out_all.ensures))
     (λ k. (c.type_inv.room k).fits)
 
 pub update_all-requires : goal.update_all-requires
@@ -27,7 +27,7 @@ update_all-requires c =
     let made = table-chosen c.args.book.now c.args.triggers c.args.table c.args.terms c.requires.1.0 c.choose.ensures in
     let p =
     prepared c.requires.0.represents.laid made
-    (rw (not-false c.work_out_all.result c.if-not-work_out_all.false-raw) at c.work_out_all.ensures) in (
+    (rw c.if-not-work_out_all.false at c.work_out_all.ensures) in (
       running-aside p.aside (λ k. (c.type_inv.room k).fits) c.requires.0,
       (
         c.requires.1.1.0,
@@ -43,5 +43,5 @@ unfolding expressions_at
 returns c =
     let made = table-chosen c.args.book.now c.args.triggers c.args.table c.args.terms c.requires.1.0 c.choose.ensures in
     query-updates c.args.table (terms_meant c.args.book.now c.args.triggers c.args.terms) c.requires.0.represents.laid
-    (prepared c.requires.0.represents.laid made (rw (not-false c.work_out_all.result c.if-not-work_out_all.false-raw) at c.work_out_all.ensures))
+    (prepared c.requires.0.represents.laid made (rw c.if-not-work_out_all.false at c.work_out_all.ensures))
     (λ k. (c.type_inv.room k).fits) c.update_all.ensures

@@ -47,8 +47,8 @@ returns-then-not-columns_fit c =
     (
       rw (looked-within c.byte-active.ensures 0 1 (search rules) c.if-active-gt1.false)
           (rw (table-looked c.byte-table.ensures c.if-table-gt3.false)
-          (rw (looked-within c.byte-triggers.ensures 1 7 c.if-triggers-lt1.false (ltb-false 7 c.byte-triggers.result c.if-triggers-gt7.false-raw))
-          (rw (columns-refused c.byte-triggers.result _ c.columns_fit.ensures c.byte-columns.ensures c.if-not-columns_fit.true-raw)))),
+          (rw (looked-within c.byte-triggers.ensures 1 7 c.if-triggers-lt1.false (ltb-false 7 c.byte-triggers.result c.if-triggers-gt7.false))
+          (rw (columns-refused c.byte-triggers.result _ c.columns_fit.ensures c.byte-columns.ensures c.if-not-columns_fit.true)))),
       omega arith,
     )
 
@@ -56,31 +56,31 @@ pub returns-then-not-has : goal.returns-then-not-has
 unfolding head_then head_end rule
 returns-then-not-has c =
     let bytes : Bytes c.args.s.now = λ i. (c.type_inv.s i).fits in
-    let gone = stands-not c.args.s.now (c.args.at + 1 + 1 + 1 + 1 + 2) c.has.ensures c.if-not-has.true-raw in (
+    let gone = stands-not c.args.s.now (c.args.at + 1 + 1 + 1 + 1 + 2) c.has.ensures c.if-not-has.true in (
       rw (looked-within c.byte-active.ensures 0 1 (search rules) c.if-active-gt1.false)
           (rw (table-looked c.byte-table.ensures c.if-table-gt3.false)
-          (rw (looked-within c.byte-triggers.ensures 1 7 c.if-triggers-lt1.false (ltb-false 7 c.byte-triggers.result c.if-triggers-gt7.false-raw))
-          (rw (columns-admitted c.byte-triggers.result _ c.columns_fit.ensures c.byte-columns.ensures c.if-not-columns_fit.false-raw)
+          (rw (looked-within c.byte-triggers.ensures 1 7 c.if-triggers-lt1.false (ltb-false 7 c.byte-triggers.result c.if-triggers-gt7.false))
+          (rw (columns-admitted c.byte-triggers.result _ c.columns_fit.ensures c.byte-columns.ensures c.if-not-columns_fit.false)
           (rw (number16-short c.args.s.now bytes (c.args.at + 1 + 1 + 1 + 1) gone))))),
       omega arith,
     )
 
 pub word16-precedes-requires : goal.word16-precedes-requires
 word16-precedes-requires c =
-    stands c.args.s.now (c.args.at + 1 + 1 + 1 + 1 + 2) c.has.ensures c.if-not-has.false-raw
+    stands c.args.s.now (c.args.at + 1 + 1 + 1 + 1 + 2) c.has.ensures c.if-not-has.false
 
 pub returns-then-not-names_rules : goal.returns-then-not-names_rules
 unfolding head_then head_end rule
 returns-then-not-names_rules c =
     let bytes : Bytes c.args.s.now = λ i. (c.type_inv.s i).fits in
-    let here = stands c.args.s.now (c.args.at + 1 + 1 + 1 + 1 + 2) c.has.ensures c.if-not-has.false-raw in
+    let here = stands c.args.s.now (c.args.at + 1 + 1 + 1 + 1 + 2) c.has.ensures c.if-not-has.false in
     (
       rw (looked-within c.byte-active.ensures 0 1 (search rules) c.if-active-gt1.false)
           (rw (table-looked c.byte-table.ensures c.if-table-gt3.false)
-          (rw (looked-within c.byte-triggers.ensures 1 7 c.if-triggers-lt1.false (ltb-false 7 c.byte-triggers.result c.if-triggers-gt7.false-raw))
-          (rw (columns-admitted c.byte-triggers.result _ c.columns_fit.ensures c.byte-columns.ensures c.if-not-columns_fit.false-raw)
+          (rw (looked-within c.byte-triggers.ensures 1 7 c.if-triggers-lt1.false (ltb-false 7 c.byte-triggers.result c.if-triggers-gt7.false))
+          (rw (columns-admitted c.byte-triggers.result _ c.columns_fit.ensures c.byte-columns.ensures c.if-not-columns_fit.false)
           (rw (number16-read c.args.s.now bytes (c.args.at + 1 + 1 + 1 + 1) here, ← c.word16-precedes.ensures.0)
-          (rw (failed c.names_rules.ensures c.if-not-names_rules.true-raw)))))),
+          (rw (failed c.names_rules.ensures c.if-not-names_rules.true)))))),
       omega arith,
     )
 
@@ -88,13 +88,13 @@ pub returns : goal.returns
 unfolding head_then head_end rule_of rule
 returns c =
     let bytes : Bytes c.args.s.now = λ i. (c.type_inv.s i).fits in
-    let here = stands c.args.s.now (c.args.at + 1 + 1 + 1 + 1 + 2) c.has.ensures c.if-not-has.false-raw in
+    let here = stands c.args.s.now (c.args.at + 1 + 1 + 1 + 1 + 2) c.has.ensures c.if-not-has.false in
     (
       rw (looked-within c.byte-active.ensures 0 1 (search rules) c.if-active-gt1.false)
           (rw (table-looked c.byte-table.ensures c.if-table-gt3.false)
-          (rw (looked-within c.byte-triggers.ensures 1 7 c.if-triggers-lt1.false (ltb-false 7 c.byte-triggers.result c.if-triggers-gt7.false-raw))
-          (rw (columns-admitted c.byte-triggers.result _ c.columns_fit.ensures c.byte-columns.ensures c.if-not-columns_fit.false-raw)
+          (rw (looked-within c.byte-triggers.ensures 1 7 c.if-triggers-lt1.false (ltb-false 7 c.byte-triggers.result c.if-triggers-gt7.false))
+          (rw (columns-admitted c.byte-triggers.result _ c.columns_fit.ensures c.byte-columns.ensures c.if-not-columns_fit.false)
           (rw (number16-read c.args.s.now bytes (c.args.at + 1 + 1 + 1 + 1) here, ← c.word16-precedes.ensures.0)
-          (rw (passed c.names_rules.ensures c.if-not-names_rules.false-raw)))))),
+          (rw (passed c.names_rules.ensures c.if-not-names_rules.false)))))),
       omega arith,
     )

@@ -11,18 +11,18 @@ use Rattle.fields.proofs.well_framed.Goals as goal
 
 pub returns-then-not-has : goal.returns-then-not-has
 unfolding well_framed
-returns-then-not-has c = rw (failed c.has.ensures c.if-not-has.true-raw)
+returns-then-not-has c = rw (failed c.has.ensures c.if-not-has.true)
 
 pub overflow_sub-rest : goal.overflow_sub-rest
-overflow_sub-rest c = stands c.args.s.now 4 c.has.ensures c.if-not-has.false-raw
+overflow_sub-rest c = stands c.args.s.now 4 c.has.ensures c.if-not-has.false
 
 pub word32-requires : goal.word32-requires
-word32-requires c = stands c.args.s.now 4 c.has.ensures c.if-not-has.false-raw
+word32-requires c = stands c.args.s.now 4 c.has.ensures c.if-not-has.false
 
 pub returns-then-word32-rest : goal.returns-then-word32-rest
 unfolding well_framed
 returns-then-word32-rest c =
-    let four = passed c.has.ensures c.if-not-has.false-raw in
+    let four = passed c.has.ensures c.if-not-has.false in
     let long = leb-true 4 (length c.args.s.now) four in
     let other : 4 + word32_at c.args.s.now 0 ≡ length c.args.s.now → ⊥ = λ e. c.if-word32-rest.true (omega (arith, c.word32.ensures)) in
     rw (four, ne_eqb (4 + word32_at c.args.s.now 0) (length c.args.s.now) other)
@@ -30,7 +30,7 @@ returns-then-word32-rest c =
 pub returns : goal.returns
 unfolding well_framed
 returns c =
-    let four = passed c.has.ensures c.if-not-has.false-raw in
+    let four = passed c.has.ensures c.if-not-has.false in
     let long = leb-true 4 (length c.args.s.now) four in
     let same : 4 + word32_at c.args.s.now 0 ≡ length c.args.s.now = omega (arith, c.word32.ensures) in
     rw (four, eq-eqb (4 + word32_at c.args.s.now 0) (length c.args.s.now) same, c.byte.ensures.is)

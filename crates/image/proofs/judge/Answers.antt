@@ -13,38 +13,38 @@ pub returns-then-not-well_framed : goal.returns-then-not-well_framed
 unfolding image_or
 returns-then-not-well_framed c =
     let bytes : Bytes c.args.s.now = λ i. (c.type_inv.s i).fits in
-    (sym (refused-frame c.args.s.now bytes (sym c.well_framed.ensures ∙ not-true _ c.if-not-well_framed.true-raw)), tt)
+    (sym (refused-frame c.args.s.now bytes (sym c.well_framed.ensures ∙ c.if-not-well_framed.true)), tt)
 
 pub returns-then-not-has : goal.returns-then-not-has
 unfolding image_or
 returns-then-not-has c =
     let bytes : Bytes c.args.s.now = λ i. (c.type_inv.s i).fits in
-    let framed = sym c.well_framed.ensures ∙ not-false _ c.if-not-well_framed.false-raw in
-    let short = leb-false 11 (length c.args.s.now) (sym c.has.ensures ∙ not-true _ c.if-not-has.true-raw) in
+    let framed = sym c.well_framed.ensures ∙ c.if-not-well_framed.false in
+    let short = leb-false 11 (length c.args.s.now) (sym c.has.ensures ∙ c.if-not-has.true) in
     (sym (refused-short c.args.s.now bytes framed short), tt)
 
 pub word32-next-requires : goal.word32-next-requires
 word32-next-requires c =
-    omega (arith, leb-true 11 (length c.args.s.now) (sym c.has.ensures ∙ not-false _ c.if-not-has.false-raw))
+    omega (arith, leb-true 11 (length c.args.s.now) (sym c.has.ensures ∙ c.if-not-has.false))
 
 pub returns-then-next-lt1 : goal.returns-then-next-lt1
 unfolding image_or
 returns-then-next-lt1 c =
     let bytes : Bytes c.args.s.now = λ i. (c.type_inv.s i).fits in
-    let framed = sym c.well_framed.ensures ∙ not-false _ c.if-not-well_framed.false-raw in
-    let long = leb-true 11 (length c.args.s.now) (sym c.has.ensures ∙ not-false _ c.if-not-has.false-raw) in
+    let framed = sym c.well_framed.ensures ∙ c.if-not-well_framed.false in
+    let long = leb-true 11 (length c.args.s.now) (sym c.has.ensures ∙ c.if-not-has.false) in
     (sym (refused-next c.args.s.now bytes framed long c.word32-next.result c.word32-next.ensures (omega (arith, c.if-next-lt1.true))), tt)
 
 pub word16-count-requires : goal.word16-count-requires
 word16-count-requires c =
-    leb-true 11 (length c.args.s.now) (sym c.has.ensures ∙ not-false _ c.if-not-has.false-raw)
+    leb-true 11 (length c.args.s.now) (sym c.has.ensures ∙ c.if-not-has.false)
 
 pub returns-then-count-gt-ROWS : goal.returns-then-count-gt-ROWS
 unfolding image_or
 returns-then-count-gt-ROWS c =
     let bytes : Bytes c.args.s.now = λ i. (c.type_inv.s i).fits in
-    let framed = sym c.well_framed.ensures ∙ not-false _ c.if-not-well_framed.false-raw in
-    let long = leb-true 11 (length c.args.s.now) (sym c.has.ensures ∙ not-false _ c.if-not-has.false-raw) in
+    let framed = sym c.well_framed.ensures ∙ c.if-not-well_framed.false in
+    let long = leb-true 11 (length c.args.s.now) (sym c.has.ensures ∙ c.if-not-has.false) in
     let refused = refused-count c.args.s.now bytes framed long c.word32-next.result c.word32-next.ensures c.if-next-lt1.false c.word16-count.result c.word16-count.ensures.0 in
     (sym (refused (omega (arith, c.if-count-gt-ROWS.true))), tt)
 
@@ -52,16 +52,16 @@ pub returns-then-s-count : goal.returns-then-s-count
 unfolding image_or
 returns-then-s-count c =
     let bytes : Bytes c.args.s.now = λ i. (c.type_inv.s i).fits in
-    let framed = sym c.well_framed.ensures ∙ not-false _ c.if-not-well_framed.false-raw in
-    let long = leb-true 11 (length c.args.s.now) (sym c.has.ensures ∙ not-false _ c.if-not-has.false-raw) in
+    let framed = sym c.well_framed.ensures ∙ c.if-not-well_framed.false in
+    let long = leb-true 11 (length c.args.s.now) (sym c.has.ensures ∙ c.if-not-has.false) in
     let refused = refused-size c.args.s.now bytes framed long c.word32-next.result c.word32-next.ensures c.if-next-lt1.false c.word16-count.result c.word16-count.ensures.0 in
     (sym (refused (omega (arith, c.if-count-gt-ROWS.false)) (λ size. omega (arith, c.if-s-count.true))), tt)
 
 pub returns-then-rows_rise : goal.returns-then-rows_rise
 returns-then-rows_rise c =
     let bytes : Bytes c.args.s.now = λ i. (c.type_inv.s i).fits in
-    let framed = sym c.well_framed.ensures ∙ not-false _ c.if-not-well_framed.false-raw in
-    let long = leb-true 11 (length c.args.s.now) (sym c.has.ensures ∙ not-false _ c.if-not-has.false-raw) in
+    let framed = sym c.well_framed.ensures ∙ c.if-not-well_framed.false in
+    let long = leb-true 11 (length c.args.s.now) (sym c.has.ensures ∙ c.if-not-has.false) in
     let image = taken c.args.s.now bytes framed long c.word32-next.result c.word32-next.ensures c.if-next-lt1.false c.word16-count.result c.word16-count.ensures.0 in
     image (omega (arith, c.if-count-gt-ROWS.false)) (omega (arith, c.if-s-count.false)) (sym c.rows_rise.ensures ∙ c.if-rows_rise.true)
 
@@ -69,7 +69,7 @@ pub returns-else-rows_rise : goal.returns-else-rows_rise
 unfolding image_or
 returns-else-rows_rise c =
     let bytes : Bytes c.args.s.now = λ i. (c.type_inv.s i).fits in
-    let framed = sym c.well_framed.ensures ∙ not-false _ c.if-not-well_framed.false-raw in
-    let long = leb-true 11 (length c.args.s.now) (sym c.has.ensures ∙ not-false _ c.if-not-has.false-raw) in
+    let framed = sym c.well_framed.ensures ∙ c.if-not-well_framed.false in
+    let long = leb-true 11 (length c.args.s.now) (sym c.has.ensures ∙ c.if-not-has.false) in
     let refused = refused-rows c.args.s.now bytes framed long c.word32-next.result c.word32-next.ensures c.if-next-lt1.false c.word16-count.result c.word16-count.ensures.0 in
     (sym (refused (omega (arith, c.if-count-gt-ROWS.false)) (sym c.rows_rise.ensures ∙ c.if-rows_rise.false)), tt)

@@ -18,12 +18,12 @@ loop-left-init c = refl
 pub returns-then-not-has : goal.returns-then-not-has
 returns-then-not-has c =
     let bytes : Bytes c.args.s.now = λ i. (c.type_inv.s i).fits in
-    let ends = leb-false (c.loop-left.here + 21) (length c.args.s.now) (sym c.has.ensures ∙ not-true _ c.if-not-has.true-raw) in
+    let ends = leb-false (c.loop-left.here + 21) (length c.args.s.now) (sym c.has.ensures ∙ c.if-not-has.true) in
     sym (c.loop-left.invariant ∙ rise-bad c.loop-left.left c.args.s.now c.loop-left.here c.loop-left.last c.args.high (search rules) (row-short c.args.s.now bytes c.loop-left.here ends))
 
 pub row_at-r-requires : goal.row_at-r-requires
 row_at-r-requires c =
-    leb-true (c.loop-left.here + 21) (length c.args.s.now) (sym c.has.ensures ∙ not-false _ c.if-not-has.false-raw)
+    leb-true (c.loop-left.here + 21) (length c.args.s.now) (sym c.has.ensures ∙ c.if-not-has.false)
 
 pub returns-then-r-gt3 : goal.returns-then-r-gt3
 returns-then-r-gt3 c =
@@ -46,7 +46,7 @@ returns-then-high-r c =
 
 pub overflow_add-here : goal.overflow_add-here
 overflow_add-here c =
-    let fits = leb-true (c.loop-left.here + 21) (length c.args.s.now) (sym c.has.ensures ∙ not-false _ c.if-not-has.false-raw) in
+    let fits = leb-true (c.loop-left.here + 21) (length c.args.s.now) (sym c.has.ensures ∙ c.if-not-has.false) in
     search rules
 
 pub loop-left-preserved : goal.loop-left-preserved

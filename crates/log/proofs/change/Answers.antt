@@ -15,11 +15,11 @@ pub returns-then-not-has : goal.returns-then-not-has
 unfolding operation_or change
 returns-then-not-has c =
     let bytes : Bytes c.args.s.now = λ i. (c.type_inv.s i).fits in
-    rw (number32-short c.args.s.now bytes c.args.at (stands-not c.args.s.now (c.args.at + 4) c.has.ensures c.if-not-has.true-raw))
+    rw (number32-short c.args.s.now bytes c.args.at (stands-not c.args.s.now (c.args.at + 4) c.has.ensures c.if-not-has.true))
 
 pub overflow_add-at : goal.overflow_add-at
 overflow_add-at c =
-    omega (arith, stands c.args.s.now (c.args.at + 4) c.has.ensures c.if-not-has.false-raw)
+    omega (arith, stands c.args.s.now (c.args.at + 4) c.has.ensures c.if-not-has.false)
 
 pub overflow_cast-mask : goal.overflow_cast-mask
 overflow_cast-mask c = omega (arith, ones-le 9 c.byte-mask.result (omega arith))
@@ -31,7 +31,7 @@ pub returns-in-At : goal.returns-in-At
 unfolding operation_or operation_meant change mask
 returns-in-At c =
     let bytes : Bytes c.args.s.now = λ i. (c.type_inv.s i).fits in
-    let here = stands c.args.s.now (c.args.at + 4) c.has.ensures c.if-not-has.false-raw in
+    let here = stands c.args.s.now (c.args.at + 4) c.has.ensures c.if-not-has.false in
     let read = sym c.values_end.ensures ∙ c.in-At.is in
     rw (
       number32-read c.args.s.now bytes c.args.at here,
@@ -45,7 +45,7 @@ pub returns-in-Short : goal.returns-in-Short
 unfolding operation_or change mask
 returns-in-Short c =
     let bytes : Bytes c.args.s.now = λ i. (c.type_inv.s i).fits in
-    let here = stands c.args.s.now (c.args.at + 4) c.has.ensures c.if-not-has.false-raw in
+    let here = stands c.args.s.now (c.args.at + 4) c.has.ensures c.if-not-has.false in
     let short = sym c.values_end.ensures ∙ c.in-Short.is in
     rw (
       number32-read c.args.s.now bytes c.args.at here,
@@ -58,12 +58,12 @@ pub returns-in_default : goal.returns-in_default
 unfolding operation_or change mask
 returns-in_default c =
     let bytes : Bytes c.args.s.now = λ i. (c.type_inv.s i).fits in
-    let here = stands c.args.s.now (c.args.at + 4) c.has.ensures c.if-not-has.false-raw in
+    let here = stands c.args.s.now (c.args.at + 4) c.has.ensures c.if-not-has.false in
     rw (number32-read c.args.s.now bytes c.args.at here, byte-within-low 1 15 c.args.s.now (c.args.at + 4) (omega arith))
 
 pub returns-in_default-2 : goal.returns-in_default-2
 unfolding operation_or change mask
 returns-in_default-2 c =
     let bytes : Bytes c.args.s.now = λ i. (c.type_inv.s i).fits in
-    let here = stands c.args.s.now (c.args.at + 4) c.has.ensures c.if-not-has.false-raw in
+    let here = stands c.args.s.now (c.args.at + 4) c.has.ensures c.if-not-has.false in
     rw (number32-read c.args.s.now bytes c.args.at here, byte-within-high 1 15 c.args.s.now (c.args.at + 4) (omega arith))

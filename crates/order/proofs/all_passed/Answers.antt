@@ -12,17 +12,17 @@ loop-left-init c = all_left
 pub returns-then-not-is_passed : goal.returns-then-not-is_passed
 unfolding all_passed
 returns-then-not-is_passed c =
-    all-fail
+    all-fail _
     c.loop-left.invariant
     (omega arith)
-    (sym c.is_passed.ensures ∙ not-true c.is_passed.result c.if-not-is_passed.true-raw)
+    (sym c.is_passed.ensures ∙ c.if-not-is_passed.true)
 
 pub loop-left-preserved : goal.loop-left-preserved
 loop-left-preserved c =
-    all-go-on
+    all-go-on _
     c.loop-left.invariant
     (omega arith)
-    (sym c.is_passed.ensures ∙ not-false c.is_passed.result c.if-not-is_passed.false-raw)
+    (sym c.is_passed.ensures ∙ c.if-not-is_passed.false)
 
 pub returns : goal.returns
 unfolding all_passed

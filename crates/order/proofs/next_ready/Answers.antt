@@ -14,14 +14,14 @@ is_ready-requires c = (omega arith, omega arith)
 pub returns-then-is_ready : goal.returns-then-is_ready
 unfolding ready_meant
 returns-then-is_ready c =
-    first-is-here
+    first-is-here _
     c.loop-left.invariant
     (omega arith)
     (sym c.is_ready.ensures ∙ c.if-is_ready.true)
 
 pub loop-left-preserved : goal.loop-left-preserved
 loop-left-preserved c =
-    first-goes-on
+    first-goes-on _
     c.loop-left.invariant
     (omega arith)
     (sym c.is_ready.ensures ∙ c.if-is_ready.false)

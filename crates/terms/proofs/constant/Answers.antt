@@ -13,19 +13,19 @@ pub returns-then-not-has : goal.returns-then-not-has
 unfolding expression_or constant
 returns-then-not-has c =
     let bytes : Bytes c.args.s.now = λ i. (c.type_inv.s i).fits in
-    rw (value-short c.args.s.now bytes c.args.at (too_few _ (c.args.at + 4) (length c.args.s.now) c.has.ensures c.if-not-has.true-raw))
+    rw (value-short c.args.s.now bytes c.args.at (too_few _ (c.args.at + 4) (length c.args.s.now) c.has.ensures c.if-not-has.true))
 
 pub word32-requires : goal.word32-requires
 word32-requires c =
-    enough _ (c.args.at + 4) (length c.args.s.now) c.has.ensures c.if-not-has.false-raw
+    enough _ (c.args.at + 4) (length c.args.s.now) c.has.ensures c.if-not-has.false
 
 pub overflow_add-result : goal.overflow_add-result
 overflow_add-result c =
-    omega (arith, enough _ (c.args.at + 4) (length c.args.s.now) c.has.ensures c.if-not-has.false-raw)
+    omega (arith, enough _ (c.args.at + 4) (length c.args.s.now) c.has.ensures c.if-not-has.false)
 
 pub returns : goal.returns
 unfolding expression_or expression_meant constant
 returns c =
     let bytes : Bytes c.args.s.now = λ i. (c.type_inv.s i).fits in
-    rw (value_read c.args.s.now bytes c.args.at (enough _ (c.args.at + 4) (length c.args.s.now) c.has.ensures c.if-not-has.false-raw))
+    rw (value_read c.args.s.now bytes c.args.at (enough _ (c.args.at + 4) (length c.args.s.now) c.has.ensures c.if-not-has.false))
     (rw c.word32.ensures)

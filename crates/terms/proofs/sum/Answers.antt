@@ -17,16 +17,16 @@ unfolding expression_or ByteLayouts.sum
 returns-then-not-has c =
     let bytes : Bytes c.args.s.now = λ i. (c.type_inv.s i).fits in
     rw (column-looked c.byte-c.ensures c.if-c-gt3.false)
-    (rw (value-short c.args.s.now bytes (c.args.at + 1) (too_few _ (c.args.at + 1 + 4) (length c.args.s.now) c.has.ensures c.if-not-has.true-raw)))
+    (rw (value-short c.args.s.now bytes (c.args.at + 1) (too_few _ (c.args.at + 1 + 4) (length c.args.s.now) c.has.ensures c.if-not-has.true)))
 
 pub word32-requires : goal.word32-requires
 word32-requires c =
-    enough _ (c.args.at + 1 + 4) (length c.args.s.now) c.has.ensures c.if-not-has.false-raw
+    enough _ (c.args.at + 1 + 4) (length c.args.s.now) c.has.ensures c.if-not-has.false
 
 pub returns : goal.returns
 unfolding expression_or expression_meant ByteLayouts.sum
 returns c =
     let bytes : Bytes c.args.s.now = λ i. (c.type_inv.s i).fits in
     rw (column-looked c.byte-c.ensures c.if-c-gt3.false)
-    (rw (value_read c.args.s.now bytes (c.args.at + 1) (enough _ (c.args.at + 1 + 4) (length c.args.s.now) c.has.ensures c.if-not-has.false-raw))
+    (rw (value_read c.args.s.now bytes (c.args.at + 1) (enough _ (c.args.at + 1 + 4) (length c.args.s.now) c.has.ensures c.if-not-has.false))
     (rw c.word32.ensures))

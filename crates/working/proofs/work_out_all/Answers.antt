@@ -27,12 +27,12 @@ work_out_row-requires c =
 pub returns-then-not-work_out_row : goal.returns-then-not-work_out_row
 returns-then-not-work_out_row c =
     turning-failed c.requires.0 c.empty.ensures _ _ (turning-works c.loop-left.invariant c.loop-left-test.true c.push_from.ensures c.work_out_row.ensures)
-    (turning-out c.loop-left.invariant c.loop-left-test.true c.push_from.ensures c.work_out_row.ensures (not-true c.work_out_row.result c.if-not-work_out_row.true-raw))
+    (turning-out c.loop-left.invariant c.loop-left-test.true c.push_from.ensures c.work_out_row.ensures c.if-not-work_out_row.true)
 
 pub loop-left-preserved : goal.loop-left-preserved
 loop-left-preserved c =
     turning-more c.loop-left.invariant c.loop-left-test.true c.push_from.ensures c.work_out_row.ensures
-    (not-false c.work_out_row.result c.if-not-work_out_row.false-raw)
+    c.if-not-work_out_row.false
 
 pub returns : goal.returns
 returns c =
