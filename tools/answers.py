@@ -1,7 +1,8 @@
 #!/usr/bin/env python3
 """Turns proofs/F/Proof.antt that ties a function's needs into proofs/F/Invariants.antt and proofs/F/Answers.antt.
 
-usage: answers.py CRATE NAMES    CRATE is the crate's folder, NAMES the names.json of `rt check --generated DIR --old-names` there
+usage: answers.py CRATE NAMES..    CRATE is the crate's folder, NAMES the names.json of `rt check --generated DIR --old-names` there,
+                                   and of the crates that it calls
 
 A file that is no list of answers to needs is left, and named.
 """
@@ -18,9 +19,76 @@ def even(name):
     return name.replace("-", "_")
 
 
+# The names of a function's `requires` clauses, by its path.
+REQUIRED = {}
+
+
+def flat(path, names):
+    """A path into nested pairs, by the clauses' names."""
+    if not names or not path:
+        return path
+    i = 0
+    while i < len(path) and path[i] == "1" and i < len(names) - 1:
+        i += 1
+    if i == len(names) - 1:
+        return [names[i]] + path[i:]
+    if i < len(path) and path[i] == "0":
+        return [names[i]] + path[i + 1 :]
+    return path
+
+
+def by_clause(body, names):
+    """A tuple at the end of an answer, as a record of the callee's clauses."""
+    text = body.rstrip()
+    if not text.endswith(")"):
+        return body
+    depth, i = 0, len(text) - 1
+    while i >= 0:
+        depth += {")": 1, "(": -1}.get(text[i], 0)
+        if not depth:
+            break
+        i -= 1
+    if not re.search(r"(^|=|\bin|\s)\s*$", text[:i]) or re.search(r"[\w)'.-]\s*$", re.sub(r"\bin\s*$", "", text[:i])):
+        return body
+    parts, rest = [], text[i + 1 : -1]
+    while len(parts) < len(names) - 1:
+        cut = top_comma(rest)
+        if cut is None:
+            return body
+        parts.append(rest[:cut].strip())
+        rest = rest[cut + 1 :].strip()
+        if len(parts) < len(names) - 1:
+            if not (rest.startswith("(") and closes(rest)):
+                return body
+            rest = rest[1:-1]
+    parts.append(rest)
+    fields = "".join(f"\n      {n} = {' '.join(q.split()) if len(q) < 100 else q};" for n, q in zip(names, parts))
+    return text[:i] + "record {" + fields + "\n    }"
+
+
+def closes(text):
+    depth = 0
+    for k, ch in enumerate(text):
+        depth += {"(": 1, ")": -1}.get(ch, 0)
+        if not depth:
+            return k == len(text) - 1
+    return False
+
+
+def top_comma(text):
+    depth = 0
+    for k, ch in enumerate(text):
+        depth += {"(": 1, ")": -1, "{": 1, "}": -1}.get(ch, 0)
+        if ch == "," and not depth:
+            return k
+    return None
+
+
 class Function:
     def __init__(self, names):
         self.n = names
+        self.clauses = {p[0]: c and c["fields"] for p, c in zip(names["places"], names["clauses"])}
+        self.own = names["pre"] and names["pre"]["fields"]
         self.parent = {p[0]: p[1] for p in names["places"]}
         self.step = {p[0]: p[2] for p in names["places"]}
         self.tests = {p[0]: dict((a, b) for a, b in p[4] if len([a, b]) == 2) for p in names["places"]}
@@ -46,6 +114,9 @@ class Function:
         for here in chain + above + list(self.parent):
             if even(self.step[here][0]) == name:
                 return self.within(here, rest, self.step[here][1]), cur
+        rest = [name if name in ("well_formed", "type_inv") else rest[0]] + rest[1:]
+        if name == "requires":
+            rest = ["requires"] + flat(rest[1:], self.own)
         return ".".join(["c"] + rest), cur
 
     def within(self, here, rest, new):
@@ -58,9 +129,11 @@ class Function:
             found = self.through(self.arm[here], name, rest)
             if found:
                 return found
-        to = self.tests[here].get(rest[1]) if len(rest) > 1 else None
-        if to:
-            return ".".join(["c", new, to] + rest[2:])
+        if len(rest) > 1 and rest[1] == "ensures" and self.clauses[here]:
+            rest = rest[:2] + flat(rest[2:], self.clauses[here])
+        if len(rest) > 1 and rest[1] in ("true", "false") and self.tests[here]:
+            # `not-true` and the like took the test as it stands; now the fact is given.
+            return ".".join(["c", new] + rest[1:])
         return ".".join(["c", new] + rest[1:])
 
     def through(self, arm, name, rest):
@@ -183,6 +256,8 @@ def aligned(args, needs, by_name):
         return 0
 
     def loss(arg):
+        if arg in by_name and re.search(r"tie\.Need-same[-_]length", "\n".join(by_name[arg])) or re.search(r"\(returns(-\d+)? c\)", arg):
+            return 0
         return 0.1 if TRIVIAL.match(arg) else 6 if arg in by_name else 3
 
     best = {(0, 0): (0, None)}
@@ -274,6 +349,15 @@ def turned(path, fun, crate, name, whole=False):
                 mapping[v] = f"l.{p}"
             bd = re.sub(r"(?<![\w.'₀-])([A-Za-z_][\w'₀-]*)", lambda q: mapping.get(q.group(1), q.group(1)), bd)
             invariants.append(comment + [f"abbrev pub {label} : goal.{label}"] + opening + [f"{label} l = {bd}".replace("= \n", "=\n")])
+    def asked(old, body):
+        m = re.match(r"(.*)-requires(-\d+)?$", even(old).replace("_requires", "-requires").replace("requires_", "requires-"))
+        if not m:
+            return body
+        for callee, names in REQUIRED.items():
+            if callee.split("::")[-1] == m.group(1) and callee in n["params"]:
+                return by_clause(body, names)
+        return body
+
     for i, (old, new) in enumerate(needs):
         arg = args[2 * len(loops) + i]
         place = fun.at[i]
@@ -290,6 +374,7 @@ def turned(path, fun, crate, name, whole=False):
                 return f"cannot read {arg}"
             vs = mm.group(1).split()
             bd = aliases(mm.group(2), fun, place, vs[0]) if vs else mm.group(2)
+            bd = asked(old, bd)
             answers.append(comment + [f"pub {new} : goal.{new}"] + opening + [f"{new}{' ' + vs[0] if vs else ''}{bd}"])
         elif arg.startswith("("):
             if TRIVIAL.match(arg) and not whole and not (opened and new.startswith("returns")):
@@ -297,13 +382,13 @@ def turned(path, fun, crate, name, whole=False):
             mm = re.match(r"\(λ (c(?: [\w']+)?)\.\s*(.*)\)$", arg, re.S)
             if not mm:
                 return f"cannot read {arg[:60]}"
-            bd = aliases(mm.group(2), fun, place, "c")
+            bd = asked(old, aliases(mm.group(2), fun, place, "c"))
             answers.append([f"pub {new} : goal.{new}"] + opened + [f"{new} c = {bd}"])
         else:
             # a lemma that answers as it stands
             answers.append([f"pub {new} : goal.{new}"] + opened + [f"{new} c = {arg} c"])
     for k, d in by_name.items():
-        if k not in used:
+        if k not in used and not re.search(r"tie\.Need-same[-_]length", "\n".join(d)):
             print(f"{path}: {k} answers nothing")
             answers.append(["-- ?? " + l for l in d])
     if whole:
@@ -347,8 +432,17 @@ def write(path, head, uses, goal, body):
         f.write("\n".join(head + kept + [goal, "", body]).rstrip() + "\n")
 
 
+def required(names):
+    for key, value in names.items():
+        m = re.match(r"Rattle-(\w+)-proofs\.(.*)\.Lts$", key)
+        if m and value.get("pre"):
+            REQUIRED[f"{m.group(1)}::{m.group(2).replace('.', '::')}"] = value["pre"]["fields"]
+
+
 def main():
     crate, names = sys.argv[1].rstrip("/"), json.load(open(sys.argv[2]))
+    for other in sys.argv[2:]:
+        required(json.load(open(other)))
     c = os.path.basename(crate)
     for folder, _, files in sorted(os.walk(f"{crate}/proofs")):
         if "Proof.antt" in files:

@@ -69,11 +69,11 @@ module _ {s : List ℕ} {at r : ℕ} (l : Peeked s at r) where
 
 -- by an answer of `columns_fit`
 module _ (triggers : ℕ) (t : Bool) {r : ℕ} (e : t ≡ columns_fit triggers r) where
-  pub columns-admitted : {s : List ℕ} {at : ℕ} → Peeked s at r → not t ≡ false → columns triggers s at ≡ got r (at + 1)
-  columns-admitted l h = rw (columns-looked l triggers, ← e, not-false t h)
+  pub columns-admitted : {s : List ℕ} {at : ℕ} → Peeked s at r → t ≡ true → columns triggers s at ≡ got r (at + 1)
+  columns-admitted l h = rw (columns-looked l triggers, ← e, h)
 
-  pub columns-refused : {s : List ℕ} {at : ℕ} → Peeked s at r → not t ≡ true → columns triggers s at ≡ bad
-  columns-refused l h = rw (columns-looked l triggers, ← e, not-true t h)
+  pub columns-refused : {s : List ℕ} {at : ℕ} → Peeked s at r → t ≡ false → columns triggers s at ≡ bad
+  columns-refused l h = rw (columns-looked l triggers, ← e, h)
 
 -- ---- The whole book, by the tests of its judge: in a right frame the step limit must stand there and be 1..1000, the rule count at most
 -- 16, and the rules well formed, ending where the slice ends

@@ -18,11 +18,11 @@ use Rattle.terms.specs.Terms.{source_meant, source_fits}
 -- ---- What was answered
 
 -- an answer of `words::has`, as an order
-pub enough : (t : Bool) (n m : ℕ) → t ≡ leb n m → not t ≡ false → n ≤ m
-enough t n m e h = leb-true n m (sym e ∙ not-false t h)
+pub enough : (t : Bool) (n m : ℕ) → t ≡ leb n m → t ≡ true → n ≤ m
+enough t n m e h = leb-true n m (sym e ∙ h)
 
-pub too_few : (t : Bool) (n m : ℕ) → t ≡ leb n m → not t ≡ true → m < n
-too_few t n m e h = leb-false n m (sym e ∙ not-true t h)
+pub too_few : (t : Bool) (n m : ℕ) → t ≡ leb n m → t ≡ false → m < n
+too_few t n m e h = leb-false n m (sym e ∙ h)
 
 -- a byte that was looked at, as it is read
 module _ {s : List ℕ} {at r : ℕ} (l : Peeked s at r) where
@@ -98,19 +98,19 @@ module _ (triggers : ℕ) where
 
   -- by an answer of `terms::source_fits`
   module _ (t : Bool) {r : ℕ} (e : t ≡ source_fits triggers r) where
-    pub source-admitted : {s : List ℕ} {at : ℕ} → Peeked s at r → not t ≡ false → source triggers s at ≡ got (source_meant r) (at + 1)
-    source-admitted l h = rw (source-looked l, ← e, not-false t h)
+    pub source-admitted : {s : List ℕ} {at : ℕ} → Peeked s at r → t ≡ true → source triggers s at ≡ got (source_meant r) (at + 1)
+    source-admitted l h = rw (source-looked l, ← e, h)
 
-    pub source-refused : {s : List ℕ} {at : ℕ} → Peeked s at r → not t ≡ true → source triggers s at ≡ bad
-    source-refused l h = rw (source-looked l, ← e, not-true t h)
+    pub source-refused : {s : List ℕ} {at : ℕ} → Peeked s at r → t ≡ false → source triggers s at ≡ bad
+    source-refused l h = rw (source-looked l, ← e, h)
 
-    pub admitted-small : not t ≡ false → r < 8
+    pub admitted-small : t ≡ true → r < 8
     admitted-small h =
         split (ltb r 8)
         (ltb-true r 8)
         (λ big.
         let none = fits-none r (omega (arith, ltb-false r 8 big)) in
-        let yes = not-false t h in
+        let yes : t ≡ true = h in
         let z : ◌≡◌ {A = ℕ} 0 1 = cc in
         absurd (omega arith))
 

@@ -5,7 +5,11 @@ use Rattle.action.proofs.delete_one.Goals as goal
 
 pub delete_row-deleted-requires : goal.delete_row-deleted-requires
 delete_row-deleted-requires c =
-    (c.requires.represents.laid, (live-sorted c.requires.reached c.requires.represents, delete-can c.requires c.args.handle))
+    record {
+      laid = c.requires.represents.laid;
+      sorted = live-sorted c.requires.reached c.requires.represents;
+      can_join = delete-can c.requires c.args.handle;
+    }
 
 pub returns-in_default : goal.returns-in_default
 returns-in_default c =

@@ -5,18 +5,18 @@ use Rattle.action.proofs.Prepared.{table-chosen, taken-rows, acts-delete}
 use Rattle.action.proofs.delete_rows.Goals as goal
 
 pub choose-requires : goal.choose-requires
-choose-requires c = c.requires.0.represents.laid
+choose-requires c = c.requires.running.represents.laid
 
 pub delete_all-requires : goal.delete_all-requires
 delete_all-requires c =
-    let made = table-chosen c.args.book.now c.args.triggers c.args.table c.args.terms c.requires.1 c.choose.ensures in
-    let aside = aside-chosen c.requires.0.represents.laid made in (
-      running-aside aside (λ k. (c.type_inv.room k).fits) c.requires.0,
-      taken-rows c.requires.0 aside c.args.table (terms_meant c.args.book.now c.args.triggers c.args.terms) made.rows,
+    let made = table-chosen c.args.book.now c.args.triggers c.args.table c.args.terms c.requires.table_bound c.choose.ensures in
+    let aside = aside-chosen c.requires.running.represents.laid made in (
+      running-aside aside (λ k. (c.type_inv.room k).fits) c.requires.running,
+      taken-rows c.requires.running aside c.args.table (terms_meant c.args.book.now c.args.triggers c.args.terms) made.rows,
     )
 
 pub returns : goal.returns
 returns c =
-    let made = table-chosen c.args.book.now c.args.triggers c.args.table c.args.terms c.requires.1 c.choose.ensures in
-    acts-delete c.requires.0 (aside-chosen c.requires.0.represents.laid made) c.args.table
+    let made = table-chosen c.args.book.now c.args.triggers c.args.table c.args.terms c.requires.table_bound c.choose.ensures in
+    acts-delete c.requires.running (aside-chosen c.requires.running.represents.laid made) c.args.table
     (terms_meant c.args.book.now c.args.triggers c.args.terms) made.rows (λ k. (c.type_inv.room k).fits) c.delete_all.ensures

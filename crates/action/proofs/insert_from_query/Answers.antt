@@ -9,31 +9,34 @@ use Rattle.action.proofs.Prepared.{prepared, query-fails, query-inserts}
 use Rattle.action.proofs.insert_from_query.Goals as goal
 
 pub choose-requires : goal.choose-requires
-choose-requires c = c.requires.0.represents.laid
+choose-requires c = c.requires.running.represents.laid
 
 pub work_out_all-requires : goal.work_out_all-requires
 work_out_all-requires c =
-    ((aside-chosen c.requires.0.represents.laid c.choose.ensures).laid, omega arith)
+    record {
+      laid = (aside-chosen c.requires.running.represents.laid c.choose.ensures).laid;
+      mask_bound = omega arith;
+    }
 
 pub returns-then-not-work_out_all : goal.returns-then-not-work_out_all
 unfolding expressions_at ones
 returns-then-not-work_out_all c =
-    query-fails c.args.table c.requires.0.represents.laid
-    (prepared c.requires.0.represents.laid c.choose.ensures (rw c.if-not-work_out_all.true at c.work_out_all.ensures))
+    query-fails c.args.table c.requires.running.represents.laid
+    (prepared c.requires.running.represents.laid c.choose.ensures (rw c.if-not-work_out_all.true at c.work_out_all.ensures))
     (λ k. (c.type_inv.room k).fits)
 
 pub insert_all-requires : goal.insert_all-requires
 insert_all-requires c =
-    (
-      running-aside (prepared c.requires.0.represents.laid c.choose.ensures c.work_out_all.ensures).aside
-          (λ k. (c.type_inv.room k).fits) c.requires.0,
-      c.requires.1.0,
-    )
+    record {
+      running = running-aside (prepared c.requires.running.represents.laid c.choose.ensures c.work_out_all.ensures).aside
+          (λ k. (c.type_inv.room k).fits) c.requires.running;
+      table_bound = c.requires.table_bound,;
+    }
 
 pub returns : goal.returns
 unfolding expressions_at ones
 returns c =
-    query-inserts c.args.table c.requires.0.represents.laid c.requires.1.1
-    (prepared c.requires.0.represents.laid c.choose.ensures
+    query-inserts c.args.table c.requires.running.represents.laid c.requires.expressions_len
+    (prepared c.requires.running.represents.laid c.choose.ensures
     (rw c.if-not-work_out_all.false at c.work_out_all.ensures))
     (λ k. (c.type_inv.room k).fits) c.insert_all.ensures

@@ -9,17 +9,20 @@ use Rattle.action.proofs.insert_values.Goals as goal
 pub work_out_values-requires : goal.work_out_values-requires
 unfolding values_at
 work_out_values-requires c =
-    (c.requires.0.represents.laid, not_short value 4 c.args.s.now c.args.values c.requires.1.1)
+    record {
+      laid = c.requires.running.represents.laid;
+      fact = not_short value 4 c.args.s.now c.args.values c.requires.values_len;
+    }
 
 pub insert_all-requires : goal.insert_all-requires
 insert_all-requires c =
-    (
-      running-aside (aside-worked c.requires.0.represents.laid c.work_out_values.ensures.works)
-          (λ k. (c.type_inv.room k).fits) c.requires.0,
-      c.requires.1.0,
-    )
+    record {
+      running = running-aside (aside-worked c.requires.running.represents.laid c.work_out_values.ensures.works)
+          (λ k. (c.type_inv.room k).fits) c.requires.running;
+      table_bound = c.requires.table_bound,;
+    }
 
 pub returns : goal.returns
 returns c =
-    acts-insert c.args.table c.requires.0.represents.laid c.work_out_values.ensures
+    acts-insert c.args.table c.requires.running.represents.laid c.work_out_values.ensures
     (λ k. (c.type_inv.room k).fits) c.insert_all.ensures

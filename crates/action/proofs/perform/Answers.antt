@@ -7,30 +7,33 @@ use Rattle.action.proofs.perform.Goals as goal
 pub insert_values-requires : goal.insert_values-requires
 unfolding action_meant
 insert_values-requires c =
-    let fit = insert_row-fits (rw c.in-Insert.is c c.requires.1) in
-    (c.requires.0, (fit.0, fit.1))
+    let fit = insert_row-fits (rw c.in-Insert.is c c.requires.fit_action) in
+    (c.requires.running, (fit.0, fit.1))
 
 pub insert_from_query-requires : goal.insert_from_query-requires
 unfolding action_meant
 insert_from_query-requires c =
-    let fit = insert_from_query-fits (rw c.in-InsertFromQuery.is c c.requires.1) in
-    (c.requires.0, (fit.0, fit.1))
+    let fit = insert_from_query-fits (rw c.in-InsertFromQuery.is c c.requires.fit_action) in
+    (c.requires.running, (fit.0, fit.1))
 
 pub delete_rows-requires : goal.delete_rows-requires
 unfolding action_meant
 delete_rows-requires c =
-    (c.requires.0, delete_rows-fits (rw c.in-Delete.is c c.requires.1))
+    record {
+      running = c.requires.running;
+      table_bound = delete_rows-fits (rw c.in-Delete.is c c.requires.fit_action);
+    }
 
 pub update_rows-requires : goal.update_rows-requires
 unfolding action_meant
 update_rows-requires c =
-    let fit = update_rows-fits (rw c.in-Update.is c c.requires.1) in
-    (c.requires.0, (fit.0, (fit.1, fit.2)))
+    let fit = update_rows-fits (rw c.in-Update.is c c.requires.fit_action) in
+    (c.requires.running, (fit.0, (fit.1, fit.2)))
 
 pub returns-in-Rollback : goal.returns-in-Rollback
 unfolding action_meant Actions.perform
 returns-in-Rollback c =
-    rw c.in-Rollback.is (rolled-back c.requires.0)
+    rw c.in-Rollback.is (rolled-back c.requires.running)
 
 pub returns-in-Insert : goal.returns-in-Insert
 unfolding action_meant Actions.perform

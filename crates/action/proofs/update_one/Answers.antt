@@ -12,31 +12,37 @@ use Rattle.action.proofs.update_one.Goals as goal
 
 pub find-found-requires : goal.find-found-requires
 find-found-requires c =
-    (c.requires.0.represents.laid.live, live-sorted c.requires.0.reached c.requires.0.represents)
+    record {
+      stands = c.requires.running.represents.laid.live;
+      sorted = live-sorted c.requires.running.reached c.requires.running.represents;
+    }
 
 pub returns-in_default : goal.returns-in_default
 returns-in_default c =
-    missing-update c.requires.0 c.args.handle c.args.mask _ (sym c.find-found.ensures ∙ c.in_default.is)
+    missing-update c.requires.running c.args.handle c.args.mask _ (sym c.find-found.ensures ∙ c.in_default.is)
 
 pub slot_at-old-requires : goal.slot_at-old-requires
 slot_at-old-requires c =
-    (
-      c.requires.0.represents.laid.live,
-      found_within c.requires.0 c.args.handle (sym c.find-found.ensures ∙ c.in-At.is),
-    )
+    record {
+      stands = c.requires.running.represents.laid.live;
+      i_bound = found_within c.requires.running c.args.handle (sym c.find-found.ensures ∙ c.in-At.is),;
+    }
 
 pub with_values-new-requires : goal.with_values-new-requires
 unfolding values_at
 with_values-new-requires c =
-    (c.requires.1.0, not_short value (ones c.args.mask) c.args.log.now c.args.values c.requires.1.1)
+    record {
+      mask_bound = c.requires.mask_bound;
+      fact = not_short value (ones c.args.mask) c.args.log.now c.args.values c.requires.values_len;
+    }
 
 pub update_row-requires : goal.update_row-requires
 update_row-requires c =
     (
-      c.requires.0.represents.laid,
+      c.requires.running.represents.laid,
       (
-        live-sorted c.requires.0.reached c.requires.0.represents,
-        update-can c.requires.0 c.args.handle (values_at c.args.log.now (ones c.args.mask) c.args.values) c.requires.1.0 c.narrow.ensures
+        live-sorted c.requires.running.reached c.requires.running.represents,
+        update-can c.requires.running c.args.handle (values_at c.args.log.now (ones c.args.mask) c.args.values) c.requires.mask_bound c.narrow.ensures
             (sym c.find-found.ensures ∙ c.in-At.is)
             (rw c.slot_at-old.ensures c c.with_values-new.ensures) (fits c),
       ),
@@ -44,7 +50,7 @@ update_row-requires c =
 
 pub returns : goal.returns
 returns c =
-    updated-one c.requires.0 c.args.handle (values_at c.args.log.now (ones c.args.mask) c.args.values) c.requires.1.0 c.narrow.ensures
+    updated-one c.requires.running c.args.handle (values_at c.args.log.now (ones c.args.mask) c.args.values) c.requires.mask_bound c.narrow.ensures
     (sym c.find-found.ensures ∙ c.in-At.is)
     (rw c.slot_at-old.ensures c c.with_values-new.ensures) (fits c)
     c.update_row.result (λ k. (c.type_inv.room k).fits) c.update_row.ensures

@@ -8,31 +8,34 @@ use Rattle.action.proofs.Prepared.{table-chosen, taken-rows, prepared, update-fa
 use Rattle.action.proofs.update_rows.Goals as goal
 
 pub choose-requires : goal.choose-requires
-choose-requires c = c.requires.0.represents.laid
+choose-requires c = c.requires.running.represents.laid
 
 pub work_out_all-requires : goal.work_out_all-requires
 work_out_all-requires c =
-    ((aside-chosen c.requires.0.represents.laid c.choose.ensures).laid, c.requires.1.1.0)
+    record {
+      laid = (aside-chosen c.requires.running.represents.laid c.choose.ensures).laid;
+      mask_bound = c.requires.mask_bound;
+    }
 
 pub returns-then-not-work_out_all : goal.returns-then-not-work_out_all
 unfolding expressions_at
 returns-then-not-work_out_all c =
-    let made = table-chosen c.args.book.now c.args.triggers c.args.table c.args.terms c.requires.1.0 c.choose.ensures in
-    update-fails c.args.table (terms_meant c.args.book.now c.args.triggers c.args.terms) c.requires.0.represents.laid
-    (prepared c.requires.0.represents.laid made (rw c.if-not-work_out_all.true at c.work_out_all.ensures))
+    let made = table-chosen c.args.book.now c.args.triggers c.args.table c.args.terms c.requires.table_bound c.choose.ensures in
+    update-fails c.args.table (terms_meant c.args.book.now c.args.triggers c.args.terms) c.requires.running.represents.laid
+    (prepared c.requires.running.represents.laid made (rw c.if-not-work_out_all.true at c.work_out_all.ensures))
     (λ k. (c.type_inv.room k).fits)
 
 pub update_all-requires : goal.update_all-requires
 update_all-requires c =
-    let made = table-chosen c.args.book.now c.args.triggers c.args.table c.args.terms c.requires.1.0 c.choose.ensures in
+    let made = table-chosen c.args.book.now c.args.triggers c.args.table c.args.terms c.requires.table_bound c.choose.ensures in
     let p =
-    prepared c.requires.0.represents.laid made
+    prepared c.requires.running.represents.laid made
     (rw c.if-not-work_out_all.false at c.work_out_all.ensures) in (
-      running-aside p.aside (λ k. (c.type_inv.room k).fits) c.requires.0,
+      running-aside p.aside (λ k. (c.type_inv.room k).fits) c.requires.running,
       (
-        c.requires.1.1.0,
+        c.requires.mask_bound,
         (
-          taken-rows c.requires.0 p.aside c.args.table (terms_meant c.args.book.now c.args.triggers c.args.terms) p.rows,
+          taken-rows c.requires.running p.aside c.args.table (terms_meant c.args.book.now c.args.triggers c.args.terms) p.rows,
           update-ready p,
         ),
       ),
@@ -41,7 +44,7 @@ update_all-requires c =
 pub returns : goal.returns
 unfolding expressions_at
 returns c =
-    let made = table-chosen c.args.book.now c.args.triggers c.args.table c.args.terms c.requires.1.0 c.choose.ensures in
-    query-updates c.args.table (terms_meant c.args.book.now c.args.triggers c.args.terms) c.requires.0.represents.laid
-    (prepared c.requires.0.represents.laid made (rw c.if-not-work_out_all.false at c.work_out_all.ensures))
+    let made = table-chosen c.args.book.now c.args.triggers c.args.table c.args.terms c.requires.table_bound c.choose.ensures in
+    query-updates c.args.table (terms_meant c.args.book.now c.args.triggers c.args.terms) c.requires.running.represents.laid
+    (prepared c.requires.running.represents.laid made (rw c.if-not-work_out_all.false at c.work_out_all.ensures))
     (λ k. (c.type_inv.room k).fits) c.update_all.ensures

@@ -7,30 +7,33 @@ use Rattle.changes.proofs.Taking.{deleting-done}
 use Rattle.changes.proofs.delete_all.Goals as goal
 
 pub size-n-requires : goal.size-n-requires
-size-n-requires c = omega (arith, c.requires.0.represents.laid.long)
+size-n-requires c = omega (arith, c.requires.running.represents.laid.long)
 
 pub loop-i-init : goal.loop-i-init
-loop-i-init c = taking-start _ c.requires.1
+loop-i-init c = taking-start _ c.requires.taken
 
 pub slot_at-e-requires : goal.slot_at-e-requires
 slot_at-e-requires c =
-    ((taking-running c.requires.0 c.loop-i.invariant).represents.laid.chosen, deleting-within c.requires.0 c.size-n.ensures c.loop-i.invariant c.loop-i-test.true)
+    record {
+      stands = (taking-running c.requires.running c.loop-i.invariant).represents.laid.chosen;
+      i_bound = deleting-within c.requires.running c.size-n.ensures c.loop-i.invariant c.loop-i-test.true;
+    }
 
 pub delete_row-requires : goal.delete_row-requires
 delete_row-requires c =
-    let now = taking-running c.requires.0 c.loop-i.invariant in (
+    let now = taking-running c.requires.running c.loop-i.invariant in (
       now.represents.laid,
       (
         live-sorted now.reached now.represents,
-        deleting-can c.requires.0 c.size-n.ensures c.loop-i.invariant c.loop-i-test.true c.slot_at-e.ensures,
+        deleting-can c.requires.running c.size-n.ensures c.loop-i.invariant c.loop-i-test.true c.slot_at-e.ensures,
       ),
     )
 
 pub loop-i-preserved : goal.loop-i-preserved
 loop-i-preserved c =
-    deleting-next c.requires.0 c.size-n.ensures c.loop-i.invariant c.loop-i-test.true c.slot_at-e.ensures _
+    deleting-next c.requires.running c.size-n.ensures c.loop-i.invariant c.loop-i-test.true c.slot_at-e.ensures _
     (λ k. (c.type_inv.room k).fits) c.delete_row.ensures
 
 pub returns : goal.returns
 returns c =
-    deleting-done c.requires.0 c.size-n.ensures c.loop-i.invariant c.loop-i-test.false
+    deleting-done c.requires.running c.size-n.ensures c.loop-i.invariant c.loop-i-test.false

@@ -7,20 +7,20 @@ use Rattle.changes.proofs.Taking.{updating-next, updating-done}
 use Rattle.changes.proofs.update_all.Goals as goal
 
 pub size-n-requires : goal.size-n-requires
-size-n-requires c = omega (arith, c.requires.0.represents.laid.long)
+size-n-requires c = omega (arith, c.requires.running.represents.laid.long)
 
 pub loop-left-init : goal.loop-left-init
-loop-left-init c = updating-start _ _ c.requires.1.1.0
+loop-left-init c = updating-start _ _ c.requires.taken
 
 pub overflow_sub-n : goal.overflow_sub-n
 overflow_sub-n c = c.loop-left.invariant.few
 
 pub slot_at-e-requires : goal.slot_at-e-requires
 slot_at-e-requires c =
-    (
-      (updating-running c.requires.0 c.requires.1.0 c.requires.1.1.1 c.size-n.ensures c.loop-left.invariant).represents.laid.worked,
-      updating-within c.requires.0 c.requires.1.0 c.requires.1.1.1 c.size-n.ensures c.loop-left.invariant c.loop-left-test.true,
-    )
+    record {
+      stands = (updating-running c.requires.running c.requires.mask_bound c.requires.rewritten c.size-n.ensures c.loop-left.invariant).represents.laid.worked;
+      i_bound = updating-within c.requires.running c.requires.mask_bound c.requires.rewritten c.size-n.ensures c.loop-left.invariant c.loop-left-test.true,;
+    }
 
 pub wide-requires : goal.wide-requires
 wide-requires c = tt
@@ -30,19 +30,19 @@ narrow-requires c = tt
 
 pub update_row-requires : goal.update_row-requires
 update_row-requires c =
-    let now = updating-running c.requires.0 c.requires.1.0 c.requires.1.1.1 c.size-n.ensures c.loop-left.invariant in (
+    let now = updating-running c.requires.running c.requires.mask_bound c.requires.rewritten c.size-n.ensures c.loop-left.invariant in (
       now.represents.laid,
       (
         live-sorted now.reached now.represents,
-        updating-can c.requires.0 c.requires.1.0 c.requires.1.1.1 c.size-n.ensures c.loop-left.invariant c.loop-left-test.true c.slot_at-e.ensures c.narrow.ensures,
+        updating-can c.requires.running c.requires.mask_bound c.requires.rewritten c.size-n.ensures c.loop-left.invariant c.loop-left-test.true c.slot_at-e.ensures c.narrow.ensures,
       ),
     )
 
 pub loop-left-preserved : goal.loop-left-preserved
 loop-left-preserved c =
-    updating-next c.requires.0 c.requires.1.0 c.requires.1.1.1 c.size-n.ensures c.loop-left.invariant c.loop-left-test.true
+    updating-next c.requires.running c.requires.mask_bound c.requires.rewritten c.size-n.ensures c.loop-left.invariant c.loop-left-test.true
     c.slot_at-e.ensures c.narrow.ensures _ (λ k. (c.type_inv.room k).fits) c.update_row.ensures
 
 pub returns : goal.returns
 returns c =
-    updating-done c.requires.0 c.requires.1.0 c.requires.1.1.1 c.size-n.ensures c.loop-left.invariant c.loop-left-test.false
+    updating-done c.requires.running c.requires.mask_bound c.requires.rewritten c.size-n.ensures c.loop-left.invariant c.loop-left-test.false

@@ -11,28 +11,28 @@ use Rattle.consider.proofs.consider.Goals as goal
 
 pub draw-requires : goal.draw-requires
 draw-requires c =
-    let low : c.args.k < 16 = omega (arith, c.requires.1.0) in
-    let few = draw-few c.requires.0.settled _ low c.requires.1.1.1 c.requires.0.reached _ in
-    (c.requires.0.settled.represents.laid, (low, (live-sorted c.requires.0.reached c.requires.0.settled.represents, few)))
+    let low : c.args.k < 16 = omega (arith, c.requires.count_bound) in
+    let few = draw-few c.requires.ready.settled _ low c.requires.k_bound c.requires.ready.reached _ in
+    (c.requires.ready.settled.represents.laid, (low, (live-sorted c.requires.ready.reached c.requires.ready.settled.represents, few)))
 
 pub run_actions-requires : goal.run_actions-requires
 run_actions-requires c =
-    running-drawn c.requires.0 c.draw.ensures (λ i. (c.slice_known-in-Is-1.given i).fits)
+    running-drawn c.requires.ready c.draw.ensures (λ i. (c.slice_known-in-Is-1.given i).fits)
 
 pub returns-then-condition_holds : goal.returns-then-condition_holds
 returns-then-condition_holds c =
     let d =
-    drawn c.requires.1.0 c.requires.1.1.0 c.requires.1.1.1 c.rule_at.ensures c.in-Is.is c.watch.ensures
+    drawn c.requires.count_bound c.requires.planned c.requires.k_bound c.rule_at.ensures c.in-Is.is c.watch.ensures
     c.draw.ensures (λ i. (c.slice_known-in-Is-1.given i).fits) in
     considers-acts d c.condition_holds.ensures c.if-condition_holds.true c.run_actions.ensures
 
 pub returns-else-condition_holds : goal.returns-else-condition_holds
 returns-else-condition_holds c =
     let d =
-    drawn c.requires.1.0 c.requires.1.1.0 c.requires.1.1.1 c.rule_at.ensures c.in-Is.is c.watch.ensures
+    drawn c.requires.count_bound c.requires.planned c.requires.k_bound c.rule_at.ensures c.in-Is.is c.watch.ensures
     c.draw.ensures (λ i. (c.slice_known-in-Is-1.given i).fits) in
     considers-none d c.condition_holds.ensures c.if-condition_holds.false
 
 pub returns-in-Bad : goal.returns-in-Bad
 returns-in-Bad c =
-    absurd (can-read (c.requires.1.1.0.placed _ c.requires.1.0.1) c.rule_at.ensures c.in-Bad.is)
+    absurd (can-read (c.requires.planned.placed _ c.requires.count_bound.1) c.rule_at.ensures c.in-Bad.is)

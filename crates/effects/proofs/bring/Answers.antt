@@ -4,16 +4,16 @@ use Rattle.effects.proofs.SpareTable.{bring-start, bring-pushes, bring-step, bri
 use Rattle.effects.proofs.bring.Goals as goal
 
 pub loop-i-init : goal.loop-i-init
-loop-i-init c = bring-start _ _ _ c.requires.0 c.requires.1.0
+loop-i-init c = bring-start _ _ _ c.requires.loom c.requires.from_le_to
 
 pub push_from-requires : goal.push_from-requires
 push_from-requires c =
-    bring-pushes c.requires.0 c.requires.1.1.0 c.loop-i.invariant c.requires.1.1.1 c.loop-i-test.true
+    bring-pushes c.requires.loom c.requires.to_bound c.loop-i.invariant c.requires.from_bound c.loop-i-test.true
 
 pub loop-i-preserved : goal.loop-i-preserved
 loop-i-preserved c =
-    bring-step c.requires.0 c.requires.1.1.0 c.loop-i.invariant c.loop-i-test.true c.push_from.ensures
+    bring-step c.requires.loom c.requires.to_bound c.loop-i.invariant c.loop-i-test.true c.push_from.ensures
 
 pub returns : goal.returns
 returns c =
-    bring-done c.requires.0 c.requires.1.1.0 c.loop-i.invariant c.loop-i-test.false
+    bring-done c.requires.loom c.requires.to_bound c.loop-i.invariant c.loop-i-test.false

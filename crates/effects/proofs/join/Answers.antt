@@ -8,18 +8,29 @@ use Rattle.effects.proofs.join.Goals as goal
 
 pub stays-requires : goal.stays-requires
 stays-requires c =
-    (c.requires.0, c.requires.1.sorted)
+    record {
+      stands = c.requires.stands;
+      sorted = c.requires.takes.sorted;
+    }
 
 pub returns-then-stays : goal.returns-then-stays
 returns-then-stays c = c.stays.ensures c.if-stays.true
 
 pub place_near-i-requires : goal.place_near-i-requires
 place_near-i-requires c =
-    (c.requires.0, c.requires.1.sorted)
+    record {
+      stands = c.requires.stands;
+      sorted = c.requires.takes.sorted;
+    }
 
 pub join_at-requires : goal.join_at-requires
 join_at-requires c =
-    (c.requires.0, (c.requires.1.sorted, (c.place_near-i.ensures, rw (← c.is_at.ensures) c.if-is_at.true)))
+    record {
+      stands = c.requires.stands;
+      sorted = c.requires.takes.sorted;
+      i_value = c.place_near-i.ensures;
+      base_value = rw (← c.is_at.ensures) c.if-is_at.true;
+    }
 
 pub returns-then-is_at : goal.returns-then-is_at
 returns-then-is_at c = c.join_at.ensures
@@ -27,10 +38,10 @@ returns-then-is_at c = c.join_at.ensures
 pub insert_at-requires : goal.insert_at-requires
 insert_at-requires c =
     let free = free-slot c.args.room.now 60000 _ c.args.op c.place_near-i.ensures
-    (rw (← c.is_at.ensures) c.if-is_at.false) c.requires.1 in
+    (rw (← c.is_at.ensures) c.if-is_at.false) c.requires.takes in
     let low = place-within c.args.op.handle (table_at c.args.room.now 60000) in
     let len = table-length c.args.room.now 60000 in
-    (c.requires.0, (free, (omega arith, omega (arith, c.place_near-i.ensures, low, len))))
+    (c.requires.stands, (free, (omega arith, omega (arith, c.place_near-i.ensures, low, len))))
 
 pub returns : goal.returns
 returns c =

@@ -9,31 +9,43 @@ use Rattle.effects.proofs.join_at.Goals as goal
 
 pub stays-requires : goal.stays-requires
 stays-requires c =
-    (c.requires.0, c.requires.1.0)
+    record {
+      stands = c.requires.stands;
+      sorted = c.requires.sorted;
+    }
 
 pub returns-then-stays : goal.returns-then-stays
 returns-then-stays c = c.stays.ensures c.if-stays.true
 
 pub slot_at-e-requires : goal.slot_at-e-requires
 slot_at-e-requires c =
-    (c.requires.0, within c)
+    record {
+      stands = c.requires.stands;
+      i_bound = within c;
+    }
 
 pub remove_at-requires : goal.remove_at-requires
 remove_at-requires c =
-    (c.requires.0, within c)
+    record {
+      stands = c.requires.stands;
+      i_bound = within c;
+    }
 
 pub returns-then-x-eq-NOTHING : goal.returns-then-x-eq-NOTHING
 returns-then-x-eq-NOTHING c =
-    joined-remove _ _ _ c.args.op c.requires.1.1.0 _ c.requires.1.1.1 c.slot_at-e.ensures
+    joined-remove _ _ _ c.args.op c.requires.i_value _ c.requires.base_value c.slot_at-e.ensures
     (rw (← c.join_slot-x.ensures) c.if-x-eq-NOTHING.true) c.remove_at.ensures
 
 pub put_at-requires : goal.put_at-requires
 put_at-requires c =
-    (c.requires.0, within c)
+    record {
+      stands = c.requires.stands;
+      i_bound = within c;
+    }
 
 pub returns : goal.returns
 returns c =
-    joined-put _ _ _ c.args.op c.requires.1.1.0 _ c.requires.1.1.1 c.slot_at-e.ensures
+    joined-put _ _ _ c.args.op c.requires.i_value _ c.requires.base_value c.slot_at-e.ensures
     (rw (← c.join_slot-x.ensures) c.if-x-eq-NOTHING.false) (rw (← c.join_slot-x.ensures) c.put_at.ensures)
 
 -- ?? -- the place is in the table

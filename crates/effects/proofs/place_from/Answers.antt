@@ -7,14 +7,17 @@ use Rattle.effects.proofs.place_from.Goals as goal
 
 pub size-n-requires : goal.size-n-requires
 unfolding table_bytes
-size-n-requires c = omega (arith, c.requires.0.fits)
+size-n-requires c = omega (arith, c.requires.stands.fits)
 
 pub loop-i-init : goal.loop-i-init
-loop-i-init c = c.requires.1
+loop-i-init c = c.requires.from_bound
 
 pub handle_at-requires : goal.handle_at-requires
 handle_at-requires c =
-    (c.requires.0, omega (arith, c.size-n.ensures))
+    record {
+      stands = c.requires.stands;
+      i_bound = omega (arith, c.size-n.ensures);
+    }
 
 pub returns-then-handle-handle_at : goal.returns-then-handle-handle_at
 returns-then-handle-handle_at c =

@@ -10,28 +10,34 @@ use Rattle.effects.proofs.settle_table.Goals as goal
 
 pub size-m-requires : goal.size-m-requires
 unfolding table_bytes
-size-m-requires c = omega (arith, c.requires.0.stretch.fits)
+size-m-requires c = omega (arith, c.requires.settles.stretch.fits)
 
 pub loop-j-init : goal.loop-j-init
-loop-j-init c = go-start _ _ c.requires.0
+loop-j-init c = go-start _ _ c.requires.settles
 
 pub slot_at-op-requires : goal.slot_at-op-requires
 slot_at-op-requires c =
-    ((go-ready c.loop-j.invariant c.requires.0).stretch, go-reads c.loop-j.invariant c.size-m.ensures c.loop-j-test.true)
+    record {
+      stands = (go-ready c.loop-j.invariant c.requires.settles).stretch;
+      i_bound = go-reads c.loop-j.invariant c.size-m.ensures c.loop-j-test.true;
+    }
 
 pub place_from-i-requires : goal.place_from-i-requires
 place_from-i-requires c =
-    ((go-ready c.loop-j.invariant c.requires.0).waits, go-low c.loop-j.invariant (go-reads c.loop-j.invariant c.size-m.ensures c.loop-j-test.true) c.slot_at-op.ensures)
+    record {
+      stands = (go-ready c.loop-j.invariant c.requires.settles).waits;
+      from_bound = go-low c.loop-j.invariant (go-reads c.loop-j.invariant c.size-m.ensures c.loop-j-test.true) c.slot_at-op.ensures;
+    }
 
 pub stays-requires : goal.stays-requires
 stays-requires c =
-    let ready = go-ready c.loop-j.invariant c.requires.0 in
+    let ready = go-ready c.loop-j.invariant c.requires.settles in
     (ready.waits, ready.sorted)
 
 pub weave-requires : goal.weave-requires
 weave-requires c =
     go-weaves c.loop-j.invariant (go-reads c.loop-j.invariant c.size-m.ensures c.loop-j-test.true) c.slot_at-op.ensures c.place_from-i.ensures
-    c.requires.0 c.requires.1
+    c.requires.settles c.requires.table_len_bound
 
 pub returns-then-not-stays : goal.returns-then-not-stays
 returns-then-not-stays c =
@@ -50,4 +56,4 @@ loop-j-preserved c =
 
 pub returns : goal.returns
 returns c =
-    go-done c.loop-j.invariant c.requires.0 c.size-m.ensures c.loop-j-test.false
+    go-done c.loop-j.invariant c.requires.settles c.size-m.ensures c.loop-j-test.false

@@ -9,9 +9,6 @@ use Rattle.effects.proofs.settle_tables.Goals as goal
 pub loop-k-init : goal.loop-k-init
 loop-k-init c = upto-start c.requires
 
-pub bounds-tables-k : goal.bounds-tables-k
-bounds-tables-k c = (returns c).frame.len
-
 pub returns-then-tables-k-gt-INACTIVE : goal.returns-then-tables-k-gt-INACTIVE
 returns-then-tables-k-gt-INACTIVE c =
     upto-ended c.requires _ c.loop-k.invariant (omega arith) c.if-tables-k-gt-INACTIVE.true

@@ -18,17 +18,23 @@ within xs base i h q = omega (arith, (hit-true h i (table_at xs base) q).0, tabl
 
 pub kind_at-kind-requires : goal.kind_at-kind-requires
 kind_at-kind-requires c =
-    (c.requires.0, within _ _ _ _ (sym c.is_at.ensures ∙ c.if-is_at.true))
+    record {
+      stands = c.requires.stands;
+      i_bound = within _ _ _ _ (sym c.is_at.ensures ∙ c.if-is_at.true);
+    }
 
 pub mask_at-mask-requires : goal.mask_at-mask-requires
 mask_at-mask-requires c =
-    (c.requires.0, within _ _ _ _ (sym c.is_at.ensures ∙ c.if-is_at.true))
+    record {
+      stands = c.requires.stands;
+      i_bound = within _ _ _ _ (sym c.is_at.ensures ∙ c.if-is_at.true);
+    }
 
 pub returns-then-kind : goal.returns-then-kind
 returns-then-kind c =
     let q = sym c.is_at.ensures ∙ c.if-is_at.true in
     λ same.
-    joined_same _ _ _ c.args.op (hit-place _ _ _ c.requires.1 q) _ q refl c.requires.0
+    joined_same _ _ _ c.args.op (hit-place _ _ _ c.requires.sorted q) _ q refl c.requires.stands
     (updated-stays _ _ (sym c.kind_at-kind.ensures ∙ c.if-kind.true) c.if-op-eq-UPDATED.true
     (rw (← c.mask_at-mask.ensures, ← c.wide.ensures.0) (eqb-true _ _ same)))
 
@@ -36,7 +42,7 @@ pub returns-then-is_at : goal.returns-then-is_at
 returns-then-is_at c =
     let q = sym c.is_at.ensures ∙ c.if-is_at.true in
     λ same.
-    joined_same _ _ _ c.args.op (hit-place _ _ _ c.requires.1 q) _ q refl c.requires.0
+    joined_same _ _ _ c.args.op (hit-place _ _ _ c.requires.sorted q) _ q refl c.requires.stands
     (inserted-stays _ _ (sym c.kind_at-kind.ensures ∙ eqb-true _ 1 same) c.if-op-eq-UPDATED.true)
 
 pub returns-else-is_at : goal.returns-else-is_at

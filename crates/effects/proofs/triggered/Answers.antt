@@ -9,14 +9,17 @@ use Rattle.effects.proofs.triggered.Goals as goal
 
 pub size-n-requires : goal.size-n-requires
 unfolding table_bytes
-size-n-requires c = omega (arith, (c.requires.0.waits _ c.requires.1).fits)
+size-n-requires c = omega (arith, (c.requires.laid.waits _ c.requires.k_bound).fits)
 
 pub loop-left-init : goal.loop-left-init
 loop-left-init c = ask-start _ _ _ (table-length _ _ ∙ sym c.size-n.ensures)
 
 pub slot_at-e-requires : goal.slot_at-e-requires
 slot_at-e-requires c =
-    (c.requires.0.waits _ c.requires.1, omega (arith, c.size-n.ensures, c.loop-left.invariant.high))
+    record {
+      stands = c.requires.laid.waits _ c.requires.k_bound;
+      i_bound = omega (arith, c.size-n.ensures, c.loop-left.invariant.high);
+    }
 
 pub returns-then-wakes : goal.returns-then-wakes
 unfolding waits_in

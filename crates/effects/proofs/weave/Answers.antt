@@ -12,37 +12,37 @@ use Rattle.effects.proofs.weave.Goals as goal
 pub empty-requires : goal.empty-requires
 unfolding table_bytes
 empty-requires c =
-    omega (arith, c.requires.0.waits.fits, c.requires.0.apart)
+    omega (arith, c.requires.settles.waits.fits, c.requires.settles.apart)
 
 pub size-n-requires : goal.size-n-requires
 unfolding table_bytes
 size-n-requires c =
-    omega (arith, (weave-loom c.requires.0 c.empty.ensures).waits.fits)
+    omega (arith, (weave-loom c.requires.settles c.empty.ensures).waits.fits)
 
 pub size-m-requires : goal.size-m-requires
 unfolding table_bytes
 size-m-requires c =
-    omega (arith, (weave-loom c.requires.0 c.empty.ensures).stretch.fits)
+    omega (arith, (weave-loom c.requires.settles c.empty.ensures).stretch.fits)
 
 pub loop-j-init : goal.loop-j-init
 loop-j-init c =
-    weave-start c.requires.0 c.empty.ensures _ _ _ c.requires.1.0
+    weave-start c.requires.settles c.empty.ensures _ _ _ c.requires.passed
 
 pub table_at-requires : goal.table_at-requires
 table_at-requires c =
-    let loom = weave-loom c.requires.0 c.empty.ensures in
+    let loom = weave-loom c.requires.settles c.empty.ensures in
     ((weaving-loom loom c.loop-j.invariant).stretch, weaving-reads loom c.loop-j.invariant c.size-m.ensures c.loop-j-test.true)
 
 pub weave_one-i-requires : goal.weave_one-i-requires
 weave_one-i-requires c =
-    let loom = weave-loom c.requires.0 c.empty.ensures in
-    let fits = weave-fits c.requires.0 c.empty.ensures c.args.table c.args.first c.args.after c.requires.1.1 in
+    let loom = weave-loom c.requires.settles c.empty.ensures in
+    let fits = weave-fits c.requires.settles c.empty.ensures c.args.table c.args.first c.args.after c.requires.after_len_bound in
     weaving-next loom c.loop-j.invariant fits (weaving-reads loom c.loop-j.invariant c.size-m.ensures c.loop-j-test.true)
     (sym c.table_at.ensures ∙ c.if-table_at-wide.true ∙ c.wide.ensures.0)
 
 pub loop-j-preserved : goal.loop-j-preserved
 loop-j-preserved c =
-    let loom = weave-loom c.requires.0 c.empty.ensures in
+    let loom = weave-loom c.requires.settles c.empty.ensures in
     ⊎_elim
     (λ q.
     let own = sym c.table_at.ensures ∙ q.0.taken ∙ c.wide.ensures.0 in
@@ -55,16 +55,16 @@ loop-j-preserved c =
 
 pub bring-requires : goal.bring-requires
 bring-requires c =
-    let loom = weave-loom c.requires.0 c.empty.ensures in
-    let fits = weave-fits c.requires.0 c.empty.ensures c.args.table c.args.first c.args.after c.requires.1.1 in
+    let loom = weave-loom c.requires.settles c.empty.ensures in
+    let fits = weave-fits c.requires.settles c.empty.ensures c.args.table c.args.first c.args.after c.requires.after_len_bound in
     last-brings loom c.loop-j.invariant c.size-m.ensures c.size-n.ensures c.loop-j-test.false fits
 
 pub put_tail-requires : goal.put_tail-requires
 put_tail-requires c =
-    put-ready c.requires.0 c.requires.1.0 c.requires.1.1 c.empty.ensures c.loop-j.invariant
+    put-ready c.requires.settles c.requires.passed c.requires.after_len_bound c.empty.ensures c.loop-j.invariant
     c.size-m.ensures c.size-n.ensures c.loop-j-test.false c.bring.ensures
 
 pub returns : goal.returns
 returns c =
-    put-aside c.requires.0 c.requires.1.0 c.requires.1.1 c.empty.ensures c.loop-j.invariant
+    put-aside c.requires.settles c.requires.passed c.requires.after_len_bound c.empty.ensures c.loop-j.invariant
     c.size-m.ensures c.size-n.ensures c.loop-j-test.false c.bring.ensures c.put_tail.ensures

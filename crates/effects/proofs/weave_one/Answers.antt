@@ -7,11 +7,17 @@ use Rattle.effects.proofs.weave_one.Goals as goal
 
 pub handle_at-handle-requires : goal.handle_at-handle-requires
 handle_at-handle-requires c =
-    (c.requires.loom.stretch, c.requires.within)
+    record {
+      stands = c.requires.loom.stretch;
+      i_bound = c.requires.within;
+    }
 
 pub place_from-i-requires : goal.place_from-i-requires
 place_from-i-requires c =
-    (c.requires.loom.waits, one-low c.requires c.handle_at-handle.ensures)
+    record {
+      stands = c.requires.loom.waits;
+      from_bound = one-low c.requires c.handle_at-handle.ensures;
+    }
 
 pub bring-requires : goal.bring-requires
 bring-requires c =

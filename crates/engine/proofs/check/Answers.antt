@@ -10,28 +10,28 @@ returns-then-out-lt-CHECK c =
 
 pub plan_of-plan-requires : goal.plan_of-plan-requires
 plan_of-plan-requires c =
-    let w = told c.args.book.now c.judge.ensures.1 c.in-Is.is in
+    let w = told c.args.book.now c.judge.ensures.told c.in-Is.is in
     (w.few, w.read)
 
 pub returns-then-not-order : goal.returns-then-not-order
 returns-then-not-order c =
-    let w = told c.args.book.now c.judge.ensures.1 c.in-Is.is in
-    let cycle = without-order c.args.book.now _ _ c.plan_of-plan.result w c.plan_of-plan.ensures (not-true _ c.if-not-order.true) in
+    let w = told c.args.book.now c.judge.ensures.told c.in-Is.is in
+    let cycle = without-order c.args.book.now _ _ c.plan_of-plan.result w c.plan_of-plan.ensures c.if-not-order.true in
     check-cycle c.args.book.now c.args.out.now c.if-out-lt-CHECK.false cycle
 
 pub put_numbers-requires : goal.put_numbers-requires
 put_numbers-requires c =
-    let w = told c.args.book.now c.judge.ensures.1 c.in-Is.is in
+    let w = told c.args.book.now c.judge.ensures.told c.in-Is.is in
     let few = w.few in
     (few, omega arith)
 
 pub returns-else-not-order : goal.returns-else-not-order
 returns-else-not-order c =
-    let w = told c.args.book.now c.judge.ensures.1 c.in-Is.is in
-    let found = not-false _ c.if-not-order.false in
+    let w = told c.args.book.now c.judge.ensures.told c.in-Is.is in
+    let found = c.if-not-order.false in
     check-rules c.args.book.now c.args.out.now _ _ c.plan_of-plan.result w c.plan_of-plan.ensures c.if-out-lt-CHECK.false found _ c.put_numbers.ensures
 
 pub returns-in-Bad : goal.returns-in-Bad
 returns-in-Bad c =
-    let malformed = refused-malformed c.args.book.now _ c.judge.ensures.0 c.in-Bad.is in
+    let malformed = refused-malformed c.args.book.now _ c.judge.ensures.result_value c.in-Bad.is in
     check-malformed c.args.book.now c.args.out.now c.if-out-lt-CHECK.false malformed

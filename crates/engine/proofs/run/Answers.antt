@@ -16,33 +16,33 @@ returns-then-room-lt-ROOM c = room-refused (omega (arith, c.if-out-lt-OUTPUT.fal
 
 pub plan_of-plan-requires : goal.plan_of-plan-requires
 plan_of-plan-requires c =
-    let w = told c.args.book.now c.judge-in-Is.ensures.1 c.in-Is-judge.is in
+    let w = told c.args.book.now c.judge-in-Is.ensures.told c.in-Is-judge.is in
     (w.few, w.read)
 
 -- no order
 pub returns-then-not-order : goal.returns-then-not-order
 unfolding refusal_meant
 returns-then-not-order c =
-    let i = image-told c.args.image.now c.judge.ensures.1 c.in-Is.is in
-    let b = told c.args.book.now c.judge-in-Is.ensures.1 c.in-Is-judge.is in
-    let cycle = without-order c.args.book.now _ _ c.plan_of-plan.result b c.plan_of-plan.ensures (not-true _ c.if-not-order.true) in
+    let i = image-told c.args.image.now c.judge.ensures.told c.in-Is.is in
+    let b = told c.args.book.now c.judge-in-Is.ensures.told c.in-Is-judge.is in
+    let cycle = without-order c.args.book.now _ _ c.plan_of-plan.result b c.plan_of-plan.ensures c.if-not-order.true in
     run-refused c.if-out-lt-OUTPUT.false c.if-room-lt-ROOM.false Cycle (book-refused c.args.image.now _ c.args.log.now _ _ i _ cycle)
 
 -- an accepted run
 pub transact-e-requires : goal.transact-e-requires
 transact-e-requires c =
-    let i = image-told c.args.image.now c.judge.ensures.1 c.in-Is.is in
-    let b = told c.args.book.now c.judge-in-Is.ensures.1 c.in-Is-judge.is in
+    let i = image-told c.args.image.now c.judge.ensures.told c.in-Is.is in
+    let b = told c.args.book.now c.judge-in-Is.ensures.told c.in-Is-judge.is in
     (
-      accepts _ _ c.args.log.now _ _ i _ _ c.plan_of-plan.result b c.plan_of-plan.ensures (not-false _ c.if-not-order.false) _,
+      accepts _ _ c.args.log.now _ _ i _ _ c.plan_of-plan.result b c.plan_of-plan.ensures c.if-not-order.false _,
       (c.if-out-lt-OUTPUT.false, c.if-room-lt-ROOM.false),
     )
 
 pub returns-in-Is-judge-2 : goal.returns-in-Is-judge-2
 returns-in-Is-judge-2 c =
-    let i = image-told c.args.image.now c.judge.ensures.1 c.in-Is.is in
-    let b = told c.args.book.now c.judge-in-Is.ensures.1 c.in-Is-judge.is in
-    let v = log-accepted _ _ c.args.log.now _ _ i _ _ c.plan_of-plan.result b c.plan_of-plan.ensures (not-false _ c.if-not-order.false) _ i.image _ _
+    let i = image-told c.args.image.now c.judge.ensures.told c.in-Is.is in
+    let b = told c.args.book.now c.judge-in-Is.ensures.told c.in-Is-judge.is in
+    let v = log-accepted _ _ c.args.log.now _ _ i _ _ c.plan_of-plan.result b c.plan_of-plan.ensures c.if-not-order.false _ i.image _ _
     c.judge-in-Is-judge.ensures c.in-Is-judge-2.is in
     run-accepted c.if-out-lt-OUTPUT.false c.if-room-lt-ROOM.false v (c.transact-e.ensures.hands_back _ i.image) c.transact-e.ensures.cleared
 
@@ -50,9 +50,9 @@ returns-in-Is-judge-2 c =
 pub returns-in-Bad-judge-2 : goal.returns-in-Bad-judge-2
 unfolding refusal_meant
 returns-in-Bad-judge-2 c =
-    let i = image-told c.args.image.now c.judge.ensures.1 c.in-Is.is in
-    let b = told c.args.book.now c.judge-in-Is.ensures.1 c.in-Is-judge.is in
-    let v = log-refused _ _ c.args.log.now _ _ i _ _ c.plan_of-plan.result b c.plan_of-plan.ensures (not-false _ c.if-not-order.false) _
+    let i = image-told c.args.image.now c.judge.ensures.told c.in-Is.is in
+    let b = told c.args.book.now c.judge-in-Is.ensures.told c.in-Is-judge.is in
+    let v = log-refused _ _ c.args.log.now _ _ i _ _ c.plan_of-plan.result b c.plan_of-plan.ensures c.if-not-order.false _
     c.judge-in-Is-judge.ensures c.in-Bad-judge-2.is in
     run-refused c.if-out-lt-OUTPUT.false c.if-room-lt-ROOM.false Log v
 
@@ -60,13 +60,13 @@ returns-in-Bad-judge-2 c =
 pub returns-in-Bad-judge : goal.returns-in-Bad-judge
 unfolding refusal_meant
 returns-in-Bad-judge c =
-    let i = image-told c.args.image.now c.judge.ensures.1 c.in-Is.is in
-    let malformed = refused-malformed c.args.book.now _ c.judge-in-Is.ensures.0 c.in-Bad-judge.is in
+    let i = image-told c.args.image.now c.judge.ensures.told c.in-Is.is in
+    let malformed = refused-malformed c.args.book.now _ c.judge-in-Is.ensures.result_value c.in-Bad-judge.is in
     run-refused c.if-out-lt-OUTPUT.false c.if-room-lt-ROOM.false Book (book-refused c.args.image.now _ c.args.log.now _ _ i _ malformed)
 
 -- a malformed image
 pub returns-in-Bad : goal.returns-in-Bad
 unfolding refusal_meant
 returns-in-Bad c =
-    let malformed = image-refused c.args.image.now c.args.book.now c.args.log.now _ c.judge.ensures.0 c.in-Bad.is in
+    let malformed = image-refused c.args.image.now c.args.book.now c.args.log.now _ c.judge.ensures.result_value c.in-Bad.is in
     run-refused c.if-out-lt-OUTPUT.false c.if-room-lt-ROOM.false Image malformed

@@ -12,9 +12,6 @@ pub loop-i-preserved : goal.loop-i-preserved
 loop-i-preserved c =
     (omega arith, copy_more _ _ c.loop-i.i c.loop-i.invariant.1 (omega arith))
 
-pub overflow_add-result : goal.overflow_add-result
-overflow_add-result c = c.loop-i.invariant.1.kept
-
 pub returns : goal.returns
 returns c =
     copy-all _ _ c.loop-i.i c.loop-i.invariant.1 (omega arith) c.loop-i.invariant.0

@@ -5,9 +5,9 @@ use Rattle.lines.proofs.put_number.Goals as goal
 
 pub put_bytes-requires : goal.put_bytes-requires
 put_bytes-requires c =
-    omega (arith, ten-digits c.args.n c.decimal-k.result c.requires.1 c.decimal-k.ensures.1.0, c.decimal-k.ensures.0.1)
+    omega (arith, ten-digits c.args.n c.decimal-k.result c.requires.n_bound c.decimal-k.ensures.len, c.decimal-k.ensures.in_bounds.1)
 
 pub returns : goal.returns
 returns c =
-    puts-number c.args.n c.decimal-k.result c.requires.1 c.decimal-k.ensures.1.0 c.decimal-k.ensures.0.1 c.decimal-k.ensures.1.1
+    puts-number c.args.n c.decimal-k.result c.requires.n_bound c.decimal-k.ensures.len c.decimal-k.ensures.in_bounds.1 c.decimal-k.ensures.1.1
     c.put_bytes.ensures

@@ -5,14 +5,17 @@ use Rattle.lines.proofs.Rows.{listed-none, listed-size, listed-table, listed_mor
 use Rattle.lines.proofs.put_rows.Goals as goal
 
 pub loop-left-init : goal.loop-left-init
-loop-left-init c = listed-none _ _ _ _ c.requires.1
+loop-left-init c = listed-none _ _ _ _ c.requires.rows_stand
 
 pub row_at-requires : goal.row_at-requires
 row_at-requires c = omega (arith, listed-size c.loop-left.invariant)
 
 pub put_row-here-requires : goal.put_row-here-requires
 put_row-here-requires c =
-    (omega (arith, c.loop-left.invariant.put, c.requires), listed-table c.loop-left.invariant (omega arith) c.row_at.result c.row_at.ensures)
+    record {
+      at_in_bounds = omega (arith, c.loop-left.invariant.put, c.requires);
+      table_bound = listed-table c.loop-left.invariant (omega arith) c.row_at.result c.row_at.ensures;
+    }
 
 pub overflow_add-from : goal.overflow_add-from
 overflow_add-from c = omega (arith, listed-size c.loop-left.invariant)
@@ -22,7 +25,4 @@ loop-left-preserved c =
     listed_more c.loop-left.invariant (omega arith) c.row_at.result c.row_at.ensures c.put_row-here.ensures
 
 pub returns : goal.returns
-returns c = listed-all c.loop-left.invariant c.requires.1.few (omega arith)
-
--- ?? same_length : tie.Need-same-length invariant-loop decreases-loop
--- ?? same_length c = c.before.loop.invariant.put.kept
+returns c = listed-all c.loop-left.invariant c.requires.rows_stand.few (omega arith)

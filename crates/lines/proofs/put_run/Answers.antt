@@ -6,13 +6,16 @@ use Rattle.lines.proofs.put_run.Goals as goal
 
 pub put_head-here-requires : goal.put_head-here-requires
 put_head-here-requires c =
-    let few = (rows-stand c.requires.1.1).few in
+    let few = (rows-stand c.requires.well_formed).few in
     (omega arith, (omega arith, omega arith, omega arith, omega arith))
 
 pub put_rows-requires : goal.put_rows-requires
 put_rows-requires c =
-    (omega arith, rows-stand c.requires.1.1)
+    record {
+      at_in_bounds = omega arith;
+      rows_stand = rows-stand c.requires.well_formed;
+    }
 
 pub returns : goal.returns
 returns c =
-    puts-run c.requires.1.1 (omega arith) c.put_head-here.ensures c.put_rows.ensures
+    puts-run c.requires.well_formed (omega arith) c.put_head-here.ensures c.put_rows.ensures

@@ -1,11 +1,6 @@
 -- `loading::empty_all` meets its contract: the tables are emptied in the order of their places, each outside those before it.
-use Rattle.slots.specs.Slots.{table_bytes}
 use Rattle.loading.proofs.Emptying.{all-emptied}
 use Rattle.loading.proofs.empty_all.Goals as goal
-
-pub empty-requires-4 : goal.empty-requires-4
-unfolding table_bytes
-empty-requires-4 c = (returns c).frame.len
 
 pub returns : goal.returns
 returns c =

@@ -7,10 +7,14 @@ use Rattle.loading.proofs.load.Goals as goal
 
 pub loop-left-init : goal.loop-left-init
 loop-left-init c =
-    loading-start c.requires.1 c.empty_all.ensures
+    loading-start c.requires.well_formed c.empty_all.ensures
 
 pub load_row-requires : goal.load_row-requires
-load_row-requires c = (c.loop-left.invariant.stands, (omega arith, omega arith))
+load_row-requires c = record {
+      stands = c.loop-left.invariant.stands;
+      room_bound = omega arith;
+      at_in_bounds = omega arith;
+    }
 
 pub loop-left-preserved : goal.loop-left-preserved
 loop-left-preserved c =
@@ -18,11 +22,5 @@ loop-left-preserved c =
 
 pub returns : goal.returns
 returns c =
-    loading-done c.requires.1 (word-put _ _ (omega arith) (omega arith) c.put_low32.ensures) c.empty_all.ensures
+    loading-done c.requires.well_formed (word-put _ _ (omega arith) (omega arith) c.put_low32.ensures) c.empty_all.ensures
     c.loop-left.invariant c.loop-left-test.false
-
--- ?? same_length : tie.Need-same-length invariant-loop decreases-loop
--- ?? same_length c =
--- ??     let put = c.before.before.before.before.before.before.before.before in
--- ??     let start = put.before.before.before.before in
--- ??     ((returns c).is _ start.requires.1.image).beyond.len

@@ -2,9 +2,6 @@
 use Rattle.loading.proofs.Rows.{row_loaded}
 use Rattle.loading.proofs.load_row.Goals as goal
 
-pub push-requires : goal.push-requires
-push-requires c = (returns c).frame.len
-
 pub returns : goal.returns
 returns c =
     row_loaded _ c.row_at-r.result c.row_at-r.ensures c.push.ensures

@@ -52,3 +52,6 @@ returns c =
     (length-take-le c.args.n c.args.precedes (omega arith))
     (masks-of-front _ _ _ c.predecessors-masks.ensures)
     (omega arith))
+
+pub overflow_cast-rules : goal.overflow_cast-rules
+overflow_cast-rules c = omega (arith, array-write-taken c)

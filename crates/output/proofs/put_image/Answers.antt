@@ -19,13 +19,16 @@ unfolding table_bytes
 low32-requires c = omega arith
 
 pub put_head-requires : goal.put_head-requires
-put_head-requires c = (omega arith, omega arith)
+put_head-requires c = record {
+      in_bounds = omega arith;
+      count_bound = omega arith;
+    }
 
 pub loop-left-init : goal.loop-left-init
 loop-left-init c =
     let all : length (table_at c.args.room.now LIVE) ≡ c.size-n.result = table-length c.args.room.now LIVE ∙ sym c.size-n.ensures in
     writing_start (table_at c.args.room.now LIVE) (low32_at c.args.room.now NEXT) c.size-n.result c.args.out.now c.put_head.new.0 all
-    (omega (arith, c.size-n.ensures, c.requires.0.size)) c.requires.1
+    (omega (arith, c.size-n.ensures, c.requires.stands.size)) c.requires.in_bounds
     (rw c.low32.ensures at c.put_head.ensures)
 
 pub slice_bounds-put_row-count : goal.slice_bounds-put_row-count
@@ -36,13 +39,16 @@ slice_bounds-put_row-start c = omega (arith, writing-length c.loop-left.invarian
 
 pub live_row-requires : goal.live_row-requires
 live_row-requires c =
-    (c.requires.0, omega (arith, c.loop-left.invariant.within, c.size-n.ensures))
+    record {
+      stands = c.requires.stands;
+      i_bound = omega (arith, c.loop-left.invariant.within, c.size-n.ensures);
+    }
 
 pub put_row-requires : goal.put_row-requires
-put_row-requires c = (
-  simp (length-take, length-drop) (omega (arith, writing-length c.loop-left.invariant)),
-  c.live_row.ensures.table,
-)
+put_row-requires c = record {
+      in_bounds = simp (length-take, length-drop) (omega (arith, writing-length c.loop-left.invariant));
+      table_bound = c.live_row.ensures.table,;
+    }
 
 pub loop-left-preserved : goal.loop-left-preserved
 loop-left-preserved c =
@@ -54,6 +60,3 @@ unfolding live_rows
 returns c =
     writing-done c.loop-left.invariant c.loop-left-test.false c.args.out.now
     (rw c.low32.ensures at c.put_head.ensures)
-
--- ?? same_length : tie.Need-same-length invariant-loop decreases-loop
--- ?? same_length c = omega (arith, writing-length c.before.loop.invariant)

@@ -4,11 +4,16 @@ use Rattle.processing.proofs.Looking.{midway-settleable, looks}
 use Rattle.processing.proofs.next_rule.Goals as goal
 
 pub settle-requires : goal.settle-requires
-settle-requires c = midway-settleable c.requires.1.1.1
+settle-requires c = midway-settleable c.requires.midway
 
 pub first_triggered-requires : goal.first_triggered-requires
 first_triggered-requires c =
-    (c.settle.ensures.laid, (c.requires.0, (c.requires.1.0, c.requires.1.1.0)))
+    record {
+      laid = c.settle.ensures.laid;
+      count_bound = c.requires.count_bound;
+      planned = c.requires.planned;
+      numbers = c.requires.numbers;
+    }
 
 pub returns : goal.returns
 returns c =

@@ -12,7 +12,10 @@ use Rattle.query.proofs.choose.Goals as goal
 
 pub wanted_rows-rows-requires : goal.wanted_rows-rows-requires
 wanted_rows-rows-requires c =
-    (emptied-laid c.requires c.empty.ensures, c.base_of-base.ensures)
+    record {
+      laid = emptied-laid c.requires c.empty.ensures;
+      base_value = c.base_of-base.ensures;
+    }
 
 pub loop-j-init : goal.loop-j-init
 loop-j-init c =

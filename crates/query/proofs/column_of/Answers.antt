@@ -14,21 +14,24 @@ bounds-places-0 c = search rules
 
 pub value_at-first-requires : goal.value_at-first-requires
 value_at-first-requires c =
-    (c.requires.0, rw (c.wide.ensures.0, ← table-length c.args.room.now c.args.base) (c.requires.1.0.inside 0 c.requires.1.1))
+    record {
+      stands = c.requires.stands;
+      i_bound = rw (c.wide.ensures.0, ← table-length c.args.room.now c.args.base) (c.requires.within.inside 0 c.requires.count_nonzero);
+    }
 
 pub loop-j-init : goal.loop-j-init
 loop-j-init c =
-    filling-start _ _ _ _ c.requires.1.0 c.requires.1.1 (rw (← c.wide.ensures.0) c.value_at-first.ensures)
+    filling-start _ _ _ _ c.requires.within c.requires.count_nonzero (rw (← c.wide.ensures.0) c.value_at-first.ensures)
 
 pub bounds-places-j : goal.bounds-places-j
 bounds-places-j c = omega arith
 
 pub value_at-requires : goal.value_at-requires
 value_at-requires c =
-    (
-      c.requires.0,
-      rw (c.wide-in-loop-j.ensures.0, ← table-length c.args.room.now c.args.base) (c.requires.1.0.inside _ c.loop-j-test.true),
-    )
+    record {
+      stands = c.requires.stands;
+      i_bound = rw (c.wide-in-loop-j.ensures.0, ← table-length c.args.room.now c.args.base) (c.requires.within.inside _ c.loop-j-test.true),;
+    }
 
 pub bounds-values-j : goal.bounds-values-j
 bounds-values-j c = omega (arith, c.loop-j.invariant.few, c.loop-j.invariant.len)

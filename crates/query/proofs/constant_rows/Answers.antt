@@ -15,7 +15,7 @@ use Rattle.query.proofs.constant_rows.Goals as goal
 pub loop-j-init : goal.loop-j-init
 loop-j-init c =
     let long : length c.args.rows.places ≡ 64 = search rules in
-    narrowing-start _ _ c.requires.1 long
+    narrowing-start _ _ c.requires.within long
 
 pub bounds-places-j : goal.bounds-places-j
 bounds-places-j c = narrowing-few _ _ c.loop-j.invariant c.loop-j-test.true
@@ -25,7 +25,10 @@ wide-requires c = tt
 
 pub value_at-v-requires : goal.value_at-v-requires
 value_at-v-requires c =
-    (c.requires.0, narrowing-stands _ _ _ c.loop-j.invariant c.loop-j-test.true c.wide.ensures.0)
+    record {
+      stands = c.requires.stands;
+      i_bound = narrowing-stands _ _ _ c.loop-j.invariant c.loop-j-test.true c.wide.ensures.0;
+    }
 
 pub compare-requires : goal.compare-requires
 compare-requires c = tt

@@ -4,18 +4,21 @@ use Rattle.query.proofs.keeps.Goals as goal
 
 pub some_agrees-found-requires : goal.some_agrees-found-requires
 some_agrees-found-requires c =
-    (c.requires.1.1.0, (c.requires.1.1.1.first.padded, c.requires.1.1.1.second.padded, c.requires.1.1.1.third.padded, c.requires.1.1.1.fourth.padded))
+    record {
+      n_nonzero = c.requires.count_nonzero;
+      padded = (c.requires.columns_of.first.padded, c.requires.columns_of.second.padded, c.requires.columns_of.third.padded, c.requires.columns_of.fourth.padded);
+    }
 
 pub returns-then-negated : goal.returns-then-negated
 returns-then-negated c =
     kept-opposite
-    (found-agrees _ (λ i. (c.type_inv.room i).fits) _ _ _ _ _ c.requires.1.1.1 c.wanted_by.ensures
+    (found-agrees _ (λ i. (c.type_inv.room i).fits) _ _ _ _ _ c.requires.columns_of c.wanted_by.ensures
     c.some_agrees-found.ensures)
     c.if-negated.true
 
 pub returns : goal.returns
 returns c =
     kept_same
-    (found-agrees _ (λ i. (c.type_inv.room i).fits) _ _ _ _ _ c.requires.1.1.1 c.wanted_by.ensures
+    (found-agrees _ (λ i. (c.type_inv.room i).fits) _ _ _ _ _ c.requires.columns_of c.wanted_by.ensures
     c.some_agrees-found.ensures)
     c.if-negated.false

@@ -9,16 +9,16 @@ use Rattle.query.proofs.match_rows.Goals as goal
 
 pub shown_rows-others-requires : goal.shown_rows-others-requires
 shown_rows-others-requires c =
-    base-stands c.requires.0 c.args.source c.base_of-from.ensures
+    base-stands c.requires.laid c.args.source c.base_of-from.ensures
 
 pub returns-then-negated : goal.returns-then-negated
 returns-then-negated c =
-    none-every _ _ c.base_of-from.ensures c.shown_rows-others.ensures c.if-others-eq0.true _ _ _ _ c.requires.1.1.0
+    none-every _ _ c.base_of-from.ensures c.shown_rows-others.ensures c.if-others-eq0.true _ _ _ _ c.requires.within
     c.if-negated.true
 
 pub returns-then-others-eq0 : goal.returns-then-others-eq0
 returns-then-others-eq0 c =
-    none_any _ _ c.base_of-from.ensures c.shown_rows-others.ensures c.if-others-eq0.true _ _ _ _ c.requires.1.1.0 _
+    none_any _ _ c.base_of-from.ensures c.shown_rows-others.ensures c.if-others-eq0.true _ _ _ _ c.requires.within _
     c.if-negated.false
 
 pub pairs_at-requires : goal.pairs_at-requires
@@ -27,11 +27,11 @@ pairs_at-requires c = c.requires.1.1.1
 pub matched-requires : goal.matched-requires
 matched-requires c =
     (
-      c.requires.1.0,
+      c.requires.stands,
       (
-        c.requires.1.1.0,
+        c.requires.within,
         (
-          base-stands c.requires.0 c.args.source c.base_of-from.ensures,
+          base-stands c.requires.laid c.args.source c.base_of-from.ensures,
           (c.shown_rows-others.ensures.within, omega (arith, c.if-others-eq0.false)),
         ),
       ),

@@ -22,7 +22,7 @@ pub column_of-s3-requires : goal.column_of-s3-requires
 column_of-s3-requires c = c.requires.1.1
 
 pub loop-j-init : goal.loop-j-init
-loop-j-init c = narrowing-start _ _ c.requires.1.0 (long c)
+loop-j-init c = narrowing-start _ _ c.requires.within (long c)
 
 pub bounds-places-j : goal.bounds-places-j
 bounds-places-j c = narrowing-few _ _ c.loop-j.invariant c.loop-j-test.true
@@ -30,11 +30,11 @@ bounds-places-j c = narrowing-few _ _ c.loop-j.invariant c.loop-j-test.true
 pub keeps-requires : goal.keeps-requires
 keeps-requires c =
     (
-      c.requires.0,
+      c.requires.stands,
       (
         narrowing-stands _ _ _ c.loop-j.invariant c.loop-j-test.true c.wide.ensures.0,
         (
-          (c.requires.1.1.1.1, c.requires.1.1.1.0.few),
+          (c.requires.count_nonzero, c.requires.within_2.few),
           record {
             c = c.column_of-s0.ensures;
             c = c.column_of-s1.ensures;

@@ -6,25 +6,25 @@ use Rattle.query.proofs.Gathered.{gathering-more}
 use Rattle.query.proofs.pairs_at.Goals as goal
 
 pub overflow_add-at : goal.overflow_add-at
-overflow_add-at c = let low = first-own _ _ _ c.requires.0 c.byte-own0.ensures in search rules
+overflow_add-at c = let low = first-own _ _ _ c.requires.in_bounds c.byte-own0.ensures in search rules
 
 pub overflow_sub-left : goal.overflow_sub-left
-overflow_sub-left c = let low = first_some _ _ _ c.requires.0 in search rules
+overflow_sub-left c = let low = first_some _ _ _ c.requires.in_bounds in search rules
 
 pub overflow_add-here : goal.overflow_add-here
 overflow_add-here c =
-    let low = first-own _ _ _ c.requires.0 c.byte-own0.ensures in
+    let low = first-own _ _ _ c.requires.in_bounds c.byte-own0.ensures in
     search rules
 
 pub overflow_add-here-2 : goal.overflow_add-here-2
 overflow_add-here-2 c =
-    let low = first-other _ _ _ c.requires.0 c.byte-own0.ensures c.byte-other0.ensures in
+    let low = first-other _ _ _ c.requires.in_bounds c.byte-own0.ensures c.byte-other0.ensures in
     search rules
 
 pub loop-left-init : goal.loop-left-init
 loop-left-init c =
-    gathering-start (first_some _ _ _ c.requires.0) c.requires.1
-    (pair_read c.byte-own0.ensures (first-own _ _ _ c.requires.0 c.byte-own0.ensures) c.byte-other0.ensures (first-other _ _ _ c.requires.0 c.byte-own0.ensures c.byte-other0.ensures))
+    gathering-start (first_some _ _ _ c.requires.in_bounds) c.requires.at_len_bound
+    (pair_read c.byte-own0.ensures (first-own _ _ _ c.requires.in_bounds c.byte-own0.ensures) c.byte-other0.ensures (first-other _ _ _ c.requires.in_bounds c.byte-own0.ensures c.byte-other0.ensures))
 
 pub returns-then-own-gt3 : goal.returns-then-own-gt3
 returns-then-own-gt3 c =

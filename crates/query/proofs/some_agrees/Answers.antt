@@ -5,4 +5,4 @@ use Rattle.query.proofs.some_agrees.Goals as goal
 
 pub returns : goal.returns
 returns c =
-    c.some_of_64.ensures ∙ some-padded _ _ _ _ _ _ c.requires.0.0 c.requires.0.1 c.requires.1.0 c.requires.1.1 c.requires.1.2 c.requires.1.3
+    c.some_of_64.ensures ∙ some-padded _ _ _ _ _ _ c.requires.n_nonzero.0 c.requires.n_nonzero.1 c.requires.padded.0 c.requires.padded.1 c.requires.padded.2 c.requires.padded.3

@@ -9,8 +9,8 @@ use Rattle.query.proofs.term_rows.Goals as goal
 pub match_rows-requires : goal.match_rows-requires
 unfolding term_meant
 match_rows-requires c =
-    let few = match-few _ _ _ (rw c.in-Match.is at c.requires.1.1.1) in
-    (c.requires.0, (c.requires.1.0, (c.requires.1.1.0, few)))
+    let few = match-few _ _ _ (rw c.in-Match.is at c.requires.few_pairs) in
+    (c.requires.laid, (c.requires.stands, (c.requires.within, few)))
 
 pub returns-in-Constant : goal.returns-in-Constant
 unfolding term_holds holds term_meant

@@ -12,7 +12,7 @@ use Rattle.query.proofs.Asking.{asking-start, asking-more, asking-done}
 use Rattle.query.proofs.wanted_rows.Goals as goal
 
 pub shown_rows-rows-requires : goal.shown_rows-rows-requires
-shown_rows-rows-requires c = base-stands c.requires.0 c.args.q.source c.requires.1
+shown_rows-rows-requires c = base-stands c.requires.laid c.args.q.source c.requires.base_value
 
 pub loop-left-init : goal.loop-left-init
 loop-left-init c = asking-start _ _ c.shown_rows-rows.ensures.within
@@ -22,7 +22,7 @@ unfolding term_or
 term_rows-rows-requires c =
     let is = sym c.term_at.ensures ∙ ap (term_or c.args.book.now) c.in-Is.is in
     let few = (term_few c.args.triggers).fit is in
-    (c.requires.0, (base-stands c.requires.0 c.args.q.source c.requires.1, (c.loop-left.invariant.within, few)))
+    (c.requires.laid, (base-stands c.requires.laid c.args.q.source c.requires.base_value, (c.loop-left.invariant.within, few)))
 
 pub returns-in-Bad : goal.returns-in-Bad
 unfolding all_hold terms_meant term_holds term_or

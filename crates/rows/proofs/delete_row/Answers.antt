@@ -10,19 +10,25 @@ returns-in_default c =
 
 pub slot_at-old-requires : goal.slot_at-old-requires
 slot_at-old-requires c =
-    (c.requires.0.live, found_within c.args.room.now _ _ c.find-found.ensures c.in-At.is)
+    record {
+      stands = c.requires.laid.live;
+      i_bound = found_within c.args.room.now _ _ c.find-found.ensures c.in-At.is;
+    }
 
 pub remove_at-requires : goal.remove_at-requires
 remove_at-requires c =
-    (c.requires.0.live, found_within c.args.room.now _ _ c.find-found.ensures c.in-At.is)
+    record {
+      stands = c.requires.laid.live;
+      i_bound = found_within c.args.room.now _ _ c.find-found.ensures c.in-At.is;
+    }
 
 pub join-requires : goal.join-requires
 join-requires c =
     found-takes c.args.room.now _ _ c.find-found.ensures c.in-At.is 2 _ c.remove_at.ensures
-    c.slot_at-old.ensures c.as_effect.ensures c.requires.1.1
+    c.slot_at-old.ensures c.as_effect.ensures c.requires.can_join
 
 pub returns : goal.returns
 returns c =
     found-deleted c.args.room.now _ _ c.find-found.ensures c.in-At.is
     (found-turned c.args.room.now _ _ c.find-found.ensures c.in-At.is 2 _ c.remove_at.ensures
-    c.slot_at-old.ensures c.as_effect.ensures c.requires.0 c.join.ensures)
+    c.slot_at-old.ensures c.as_effect.ensures c.requires.laid c.join.ensures)

@@ -9,15 +9,19 @@ use Rattle.rows.proofs.insert_row.Goals as goal
 
 pub push-requires : goal.push-requires
 push-requires c =
-    (c.requires.1.1.laid.live, (omega (arith, c.requires.0, table-length c.args.room.now LIVE), omega arith))
+    record {
+      stands = c.requires.joinable.laid.live;
+      base_bound = omega (arith, c.requires.room_len_bound, table-length c.args.room.now LIVE);
+      most_bound = omega arith;
+    }
 
 pub join-requires : goal.join-requires
 join-requires c =
     insert-takes _ _ _ c.next-handle.ensures c.row_of-new.ensures c.push.ensures
-    (word-put _ _ (omega (arith, c.next-handle.ensures)) (omega arith) c.put_low32.ensures) c.as_effect.ensures c.requires.1.1
+    (word-put _ _ (omega (arith, c.next-handle.ensures)) (omega arith) c.put_low32.ensures) c.as_effect.ensures c.requires.joinable
 
 pub returns : goal.returns
 returns c =
     insert-turned _ _ _ c.next-handle.ensures c.row_of-new.ensures c.push.ensures
     (word-put _ _ (omega (arith, c.next-handle.ensures)) (omega arith) c.put_low32.ensures) c.as_effect.ensures
-    c.requires.1.1 c.join.ensures
+    c.requires.joinable c.join.ensures

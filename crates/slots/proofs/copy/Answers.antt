@@ -3,12 +3,15 @@ use native.Mathlib.Omega.{arith}
 use Rattle.slots.proofs.Frames.{slot-copied}
 use Rattle.slots.proofs.copy.Goals as goal
 
+pub overflow_add-to-5 : goal.overflow_add-to-5
+overflow_add-to-5 c = omega (arith, known c)
+
 pub put_low32-requires-6 : goal.put_low32-requires-6
 put_low32-requires-6 c = omega (arith, known c)
 
 pub returns : goal.returns
 returns c =
-    slot-copied _ _ _ (λ k. (c.slice_known-1.given k).fits) (omega (arith, c)) c.requires.1
+    slot-copied _ _ _ (λ k. (c.slice_known-1.given k).fits) (omega (arith, c)) c.requires.to_in_bounds
     c.low32-handle.ensures c.low32-v0.ensures c.low32-v1.ensures c.low32-v2.ensures c.low32-v3.ensures
     c.put_low32.ensures c.put_low32-2.ensures c.put_low32-3.ensures
     c.put_low32-4.ensures c.put_low32-5.ensures c.put_low32-6.ensures

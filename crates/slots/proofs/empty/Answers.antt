@@ -6,10 +6,6 @@ use Rattle.slots.proofs.Frames.{word-put}
 use Rattle.slots.proofs.Tables.{resized}
 use Rattle.slots.proofs.empty.Goals as goal
 
-pub put_low32-requires : goal.put_low32-requires
-unfolding table_bytes
-put_low32-requires c = (returns c).frame.len
-
 pub returns : goal.returns
 unfolding slots_from table_bytes
 returns c =

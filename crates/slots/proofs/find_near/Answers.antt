@@ -6,4 +6,4 @@ use Rattle.slots.proofs.find_near.Goals as goal
 pub returns-then-is_at : goal.returns-then-is_at
 returns-then-is_at c =
     let here = hit-at _ _ _ c.is_at.ensures c.if-is_at.true in
-    sym (find-there _ _ _ c.requires.1 here.0 here.1)
+    sym (find-there _ _ _ c.requires.sorted here.0 here.1)

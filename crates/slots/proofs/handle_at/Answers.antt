@@ -4,4 +4,4 @@ use Rattle.slots.proofs.Tables.{table-handle}
 use Rattle.slots.proofs.handle_at.Goals as goal
 
 pub returns : goal.returns
-returns c = c.low32.ensures ∙ sym (table-handle _ _ _ c.requires.1)
+returns c = c.low32.ensures ∙ sym (table-handle _ _ _ c.requires.i_bound)

@@ -6,12 +6,8 @@ use Rattle.slots.proofs.Frames.{word-put}
 use Rattle.slots.proofs.Tables.{inserted}
 use Rattle.slots.proofs.insert_at.Goals as goal
 
-pub put_low32-requires : goal.put_low32-requires
-unfolding table_bytes
-put_low32-requires c = (returns c).frame.len
-
 pub returns : goal.returns
 unfolding table_bytes
 returns c =
-    inserted _ _ _ _ c.requires.0 c.size-n.ensures (omega arith) (omega arith) c.move_up.ensures
+    inserted _ _ _ _ c.requires.stands c.size-n.ensures (omega arith) (omega arith) c.move_up.ensures
     c.store.ensures (word-put _ _ (omega arith) (omega arith) c.put_low32.ensures)

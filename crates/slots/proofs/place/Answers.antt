@@ -12,12 +12,12 @@ loop-lo-init c = rw c.size-hi.ensures (seek-start _ _ _ (table-length _ _))
 
 pub loop-lo-preserved-then-low32-handle : goal.loop-lo-preserved-then-low32-handle
 loop-lo-preserved-then-low32-handle c =
-    seek-right _ _ _ _ c.loop-lo.invariant _ _ c.requires.1 (omega arith)
+    seek-right _ _ _ _ c.loop-lo.invariant _ _ c.requires.sorted (omega arith)
     (c.low32.ensures ∙ sym (table-handle _ _ _ (omega arith))) c.if-low32-handle.true
 
 pub loop-lo-preserved : goal.loop-lo-preserved
 loop-lo-preserved c =
-    seek-left _ _ _ _ c.loop-lo.invariant _ _ c.requires.1 (omega arith) (omega arith)
+    seek-left _ _ _ _ c.loop-lo.invariant _ _ c.requires.sorted (omega arith) (omega arith)
     (c.low32.ensures ∙ sym (table-handle _ _ _ (omega arith))) c.if-low32-handle.false
 
 pub returns : goal.returns

@@ -11,16 +11,16 @@ use Rattle.slots.proofs.place_near.Goals as goal
 pub returns-then-is_at : goal.returns-then-is_at
 returns-then-is_at c =
     let here = hit-at _ _ _ c.is_at.ensures c.if-is_at.true in
-    sym (place-there _ _ _ c.requires.1 here.0 here.1)
+    sym (place-there _ _ _ c.requires.sorted here.0 here.1)
 
 pub returns-then-n-eq0 : goal.returns-then-n-eq0
 returns-then-n-eq0 c =
-    sym (place_end _ _ _ c.requires.1 (omega (arith, table-length c.args.room.now c.args.base)) (λ p. absurd (omega arith)))
+    sym (place_end _ _ _ c.requires.sorted (omega (arith, table-length c.args.room.now c.args.base)) (λ p. absurd (omega arith)))
 
 pub returns-then-handle_at-handle : goal.returns-then-handle_at-handle
 returns-then-handle_at-handle c =
     sym
-    (place_end _ _ _ c.requires.1 (omega (arith, table-length c.args.room.now c.args.base)) (λ p. omega (arith, c.handle_at.ensures)))
+    (place_end _ _ _ c.requires.sorted (omega (arith, table-length c.args.room.now c.args.base)) (λ p. omega (arith, c.handle_at.ensures)))
 
 pub returns : goal.returns
 unfolding table_bytes

@@ -5,12 +5,8 @@ use Rattle.slots.proofs.Frames.{word-put}
 use Rattle.slots.proofs.Tables.{pushed}
 use Rattle.slots.proofs.push.Goals as goal
 
-pub put_low32-requires : goal.put_low32-requires
-unfolding table_bytes
-put_low32-requires c = (returns c).frame.len
-
 pub returns : goal.returns
 unfolding table_bytes
 returns c =
-    pushed _ _ _ c.requires.0 c.size-end.ensures (omega arith) c.store.ensures
+    pushed _ _ _ c.requires.stands c.size-end.ensures (omega arith) c.store.ensures
     (word-put _ _ (omega arith) (omega arith) c.put_low32.ensures)

@@ -9,15 +9,14 @@ use Rattle.slots.proofs.push_place.Goals as goal
 
 pub copy-requires : goal.copy-requires
 unfolding table_bytes
-copy-requires c = (omega arith, omega arith)
-
-pub put_low32-requires : goal.put_low32-requires
-unfolding table_bytes
-put_low32-requires c = (returns c).frame.len
+copy-requires c = record {
+      from_in_bounds = omega arith;
+      to_in_bounds = omega arith;
+    }
 
 pub returns : goal.returns
 unfolding table_bytes
 returns c =
-    rw (← marks-kind c.args.room.now c.args.from c.args.i c.requires.1.1.1.1 c.low32.ensures (c.args.i % 256) (omega arith))
-    (pushed _ _ _ c.requires.0 c.size-end.ensures (omega arith) c.copy.ensures
+    rw (← marks-kind c.args.room.now c.args.from c.args.i c.requires.i_bound c.low32.ensures (c.args.i % 256) (omega arith))
+    (pushed _ _ _ c.requires.stands c.size-end.ensures (omega arith) c.copy.ensures
     (word-put _ _ (omega arith) (omega arith) c.put_low32.ensures))

@@ -7,14 +7,13 @@ use Rattle.slots.proofs.put_tail.Goals as goal
 
 pub copy_bytes-requires : goal.copy_bytes-requires
 unfolding table_bytes
-copy_bytes-requires c = (omega arith, omega arith)
-
-pub put_low32-requires : goal.put_low32-requires
-unfolding table_bytes
-put_low32-requires c = (returns c).frame.len
+copy_bytes-requires c = record {
+      n_bound = omega arith;
+      n_in_bounds = omega arith;
+    }
 
 pub returns : goal.returns
 unfolding table_bytes
 returns c =
-    tailed _ _ _ _ _ c.requires.0 c.size-n.ensures (omega arith) (omega arith) c.copy_bytes.ensures
+    tailed _ _ _ _ _ c.requires.stands c.size-n.ensures (omega arith) (omega arith) c.copy_bytes.ensures
     (word-put _ _ (omega arith) (omega arith) c.put_low32.ensures)

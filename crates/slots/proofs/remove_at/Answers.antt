@@ -7,14 +7,13 @@ use Rattle.slots.proofs.Frames.{word-put}
 use Rattle.slots.proofs.Tables.{removed}
 use Rattle.slots.proofs.remove_at.Goals as goal
 
-pub put_low32-requires : goal.put_low32-requires
-unfolding table_bytes
-put_low32-requires c = (returns c).frame.len
+pub overflow_cast-n : goal.overflow_cast-n
+overflow_cast-n c = omega (arith, small c)
 
 pub returns : goal.returns
 unfolding table_bytes
 returns c =
-    removed _ _ _ _ c.requires.0 c.size-n.ensures (omega arith) c.move_down.ensures
+    removed _ _ _ _ c.requires.stands c.size-n.ensures (omega arith) c.move_down.ensures
     (word-put _ _ (omega (arith, small c)) (omega arith) c.put_low32.ensures)
 
 -- ?? -- the size is a word

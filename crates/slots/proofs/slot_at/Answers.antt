@@ -4,4 +4,4 @@ use Rattle.slots.proofs.Tables.{table-get}
 use Rattle.slots.proofs.slot_at.Goals as goal
 
 pub returns : goal.returns
-returns c = c.load.ensures ∙ sym (table-get _ _ _ c.requires.1)
+returns c = c.load.ensures ∙ sym (table-get _ _ _ c.requires.i_bound)

@@ -8,14 +8,14 @@ pub returns : goal.returns
 returns c =
     let fits : Fits _ =
     record {
-      handle = c.well-formed.1.1.0.1.1.0.1;
-      kind = c.well-formed.1.1.0.1.1.1.0.1;
-      mask = c.well-formed.1.1.0.1.1.1.1.0.1;
-      table = c.well-formed.1.1.0.1.1.1.1.1.0.1;
-      v0 = c.well-formed.1.1.0.1.1.1.1.1.1.0.1;
-      v1 = c.well-formed.1.1.0.1.1.1.1.1.1.1.0.1;
-      v2 = c.well-formed.1.1.0.1.1.1.1.1.1.1.1.0.1;
-      v3 = c.well-formed.1.1.0.1.1.1.1.1.1.1.1.1.0.1;
+      handle = c.well_formed.1.1.0.1.1.0.1;
+      kind = c.well_formed.1.1.0.1.1.1.0.1;
+      mask = c.well_formed.1.1.0.1.1.1.1.0.1;
+      table = c.well_formed.1.1.0.1.1.1.1.1.0.1;
+      v0 = c.well_formed.1.1.0.1.1.1.1.1.1.0.1;
+      v1 = c.well_formed.1.1.0.1.1.1.1.1.1.1.0.1;
+      v2 = c.well_formed.1.1.0.1.1.1.1.1.1.1.1.0.1;
+      v3 = c.well_formed.1.1.0.1.1.1.1.1.1.1.1.1.0.1;
     } in
     slot-put _ _ _ fits (omega arith) c.requires
     c.put_low32.ensures c.put_low32-2.ensures c.put_low32-3.ensures c.put_low32-4.ensures c.put_low32-5.ensures c.put_low32-6.ensures

@@ -8,4 +8,4 @@ use Rattle.slots.proofs.table_at.Goals as goal
 pub returns : goal.returns
 unfolding slot_at
 returns c =
-    rw c.low32.ensures (sym (ap (λ (e : Slot). e.table) (table-get _ _ _ c.requires.1)))
+    rw c.low32.ensures (sym (ap (λ (e : Slot). e.table) (table-get _ _ _ c.requires.i_bound)))

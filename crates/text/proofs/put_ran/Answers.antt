@@ -4,33 +4,27 @@ use Rattle.text.proofs.Told.{ran-lines, count_small, not-bad, outcome-small, rea
 use Rattle.text.proofs.put_ran.Goals as goal
 
 pub slice_bounds-s-end : goal.slice_bounds-s-end
-slice_bounds-s-end c = c.part_end-n.ensures.1
+slice_bounds-s-end c = c.part_end-n.ensures.upper_bound
 
 pub put_run-requires : goal.put_run-requires
 put_run-requires c =
     let o = outcome_meant c.args.outcome in (
-      c.requires.0,
+      c.requires.in_bounds,
       (
         (
           rw c.outcome.ensures (outcome-small o),
           rw c.reason.ensures (reason-small o),
-          count_small c.requires.1,
+          count_small c.requires.telling,
         ),
-        rw c.in-Is.is at c.judge.ensures.1,
+        rw c.in-Is.is at c.judge.ensures.told,
       ),
     )
 
 pub returns-in-Is : goal.returns-in-Is
 returns-in-Is c =
-    ran-lines c.args.outcome c.args.count c.part_end-n.ensures.0 c.put_run.ensures
+    ran-lines c.args.outcome c.args.count c.part_end-n.ensures.value c.put_run.ensures
     c.outcome.ensures c.reason.ensures
 
 pub returns-in-Bad : goal.returns-in-Bad
 returns-in-Bad c =
-    not-bad c.requires.1 c.part_end-n.ensures.0 c.judge.ensures.0 c.in-Bad.is
-
--- ?? same_length : tie.Need-same-length
--- ?? same_length c =
--- ??     let start = c.before.before.before.before.before.before.before.before.before.before.before.before.before.before in
--- ??     let telling = start.requires.1 in
--- ??     ((returns c).is telling.verdict telling.tells).kept
+    not-bad c.requires.telling c.part_end-n.ensures.value c.judge.ensures.result_value c.in-Bad.is

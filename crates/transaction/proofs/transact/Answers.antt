@@ -6,16 +6,21 @@ use Rattle.transaction.proofs.transact.Goals as goal
 
 pub process-e-requires : goal.process-e-requires
 process-e-requires c =
-    (c.requires.0.few, (c.requires.0.planned, (c.requires.0.numbers, starts c.requires.0 c.load.ensures (λ k. (c.type_inv.room k).fits))))
+    record {
+      count_bound = c.requires.accepts.few;
+      planned = c.requires.accepts.planned;
+      numbers = c.requires.accepts.numbers;
+      starts = starts c.requires.accepts c.load.ensures (λ k. (c.type_inv.room k).fits);
+    }
 
 pub hand_back-requires : goal.hand_back-requires
 hand_back-requires c =
     (
-      live-stands c.requires.0 c.load.ensures (λ k. (c.type_inv.room k).fits) c.process-e.ensures,
-      (c.requires.1.0, image-length _ _ c.requires.0.rows.image),
+      live-stands c.requires.accepts c.load.ensures (λ k. (c.type_inv.room k).fits) c.process-e.ensures,
+      (c.requires.in_bounds, image-length _ _ c.requires.accepts.rows.image),
     )
 
 pub returns : goal.returns
 returns c =
-    transacts c.requires.0 c.load.ensures (λ k. (c.type_inv.room k).fits) c.process-e.ensures
+    transacts c.requires.accepts c.load.ensures (λ k. (c.type_inv.room k).fits) c.process-e.ensures
     c.hand_back.ensures c.clear.ensures

@@ -13,14 +13,19 @@ size-n-requires c = omega arith
 
 pub loop-left-init : goal.loop-left-init
 loop-left-init c =
-    draw-start _ _ c.requires.0 c.requires.1.0 c.requires.1.1.0 c.requires.1.1.1 c.empty_tables.ensures c.size-n.ensures
+    draw-start _ _ c.requires.laid c.requires.k_bound c.requires.sorted c.requires.few c.empty_tables.ensures c.size-n.ensures
 
 pub overflow_sub-n : goal.overflow_sub-n
 overflow_sub-n c = omega (arith, c.loop-left.invariant.most)
 
 pub draw_one-near-requires : goal.draw_one-near-requires
 draw_one-near-requires c =
-    (draw-wait _ _ _ c.loop-left.invariant, (draw-within _ _ _ c.loop-left.invariant c.loop-left-test.true, (draw-live _ _ _ c.loop-left.invariant, draw-ready _ _ _ c.loop-left.invariant c.loop-left-test.true)))
+    record {
+      stands = draw-wait _ _ _ c.loop-left.invariant;
+      i_bound = draw-within _ _ _ c.loop-left.invariant c.loop-left-test.true;
+      live_rises = draw-live _ _ _ c.loop-left.invariant;
+      room_for_all = draw-ready _ _ _ c.loop-left.invariant c.loop-left-test.true;
+    }
 
 pub loop-left-preserved : goal.loop-left-preserved
 loop-left-preserved c =
@@ -32,5 +37,5 @@ empty-requires c = omega arith
 
 pub returns : goal.returns
 returns c =
-    draw-done _ _ _ c.requires.0 c.empty_tables.ensures c.loop-left.invariant
+    draw-done _ _ _ c.requires.laid c.empty_tables.ensures c.loop-left.invariant
     c.loop-left-test.false c.empty.ensures

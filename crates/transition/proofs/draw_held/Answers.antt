@@ -6,8 +6,8 @@ use Rattle.transition.proofs.draw_held.Goals as goal
 
 pub push_from-requires : goal.push_from-requires
 push_from-requires c =
-    let spare = own-spare _ _ (sym c.table_at.ensures ∙ c.if-table_at-rule.true) c.requires.1.1 in
-    (c.requires.1.1.stands, (spare, (omega arith, (c.requires.0, c.requires.1.0))))
+    let spare = own-spare _ _ (sym c.table_at.ensures ∙ c.if-table_at-rule.true) c.requires.room_for in
+    (c.requires.room_for.stands, (spare, (omega arith, (c.requires.stands, c.requires.i_bound))))
 
 pub returns-then-table_at-rule : goal.returns-then-table_at-rule
 returns-then-table_at-rule c =
@@ -15,4 +15,4 @@ returns-then-table_at-rule c =
 
 pub returns-else-table_at-rule : goal.returns-else-table_at-rule
 returns-else-table_at-rule c =
-    other-added _ _ (λ q. c.if-table_at-rule.false (c.table_at.ensures ∙ q)) c.requires.1.1.stands
+    other-added _ _ (λ q. c.if-table_at-rule.false (c.table_at.ensures ∙ q)) c.requires.room_for.stands

@@ -10,27 +10,27 @@ pub draw_live-requires : goal.draw_live-requires
 draw_live-requires c =
     let tells = tells-inserted (watch_rule c.args.rule) (live_rows c.args.room.now) (slot_in c.args.room.now c.args.wait c.args.i)
     (sym c.kind_at-kind.ensures ∙ c.in-1.is) in
-    (c.requires.1.1.0, rw c.handle_at-handle.ensures (rw tells.inserted at c.requires.1.1.1.inserted))
+    (c.requires.live_rises, rw c.handle_at-handle.ensures (rw tells.inserted at c.requires.room_for_all.inserted))
 
 pub draw_held-requires : goal.draw_held-requires
 draw_held-requires c =
     let tells = tells-deleted (watch_rule c.args.rule) (live_rows c.args.room.now) (slot_in c.args.room.now c.args.wait c.args.i)
     (sym c.kind_at-kind.ensures ∙ c.in-2.is) in
-    (c.requires.0, (c.requires.1.0, rw tells.deleted at c.requires.1.1.1.deleted))
+    (c.requires.stands, (c.requires.i_bound, rw tells.deleted at c.requires.room_for_all.deleted))
 
 pub draw_updated-requires : goal.draw_updated-requires
 draw_updated-requires c =
-    (c.requires.0, (c.requires.1.0, (sym c.kind_at-kind.ensures ∙ c.in-3.is, c.requires.1.1)))
+    (c.requires.stands, (c.requires.i_bound, (sym c.kind_at-kind.ensures ∙ c.in-3.is, c.requires.1.1)))
 
 pub returns-in-1 : goal.returns-in-1
 returns-in-1 c =
-    shown-inserted c.requires.1.1.1
+    shown-inserted c.requires.room_for_all
     (tells-inserted _ _ _ (sym c.kind_at-kind.ensures ∙ c.in-1.is))
     (rw c.handle_at-handle.ensures at c.draw_live.ensures)
 
 pub returns-in-2 : goal.returns-in-2
 returns-in-2 c =
-    shown-deleted c.requires.1.1.1
+    shown-deleted c.requires.room_for_all
     (tells-deleted _ _ _ (sym c.kind_at-kind.ensures ∙ c.in-2.is)) c.draw_held.ensures
 
 pub returns-in-3 : goal.returns-in-3
@@ -38,5 +38,5 @@ returns-in-3 c = c.draw_updated.ensures
 
 pub returns-in_default : goal.returns-in_default
 returns-in_default c =
-    shown-nowhere c.requires.1.1.1
+    shown-nowhere c.requires.room_for_all
     (tells-nothing _ _ _ (λ q. c.in_default.rest.0.0.1 (c.kind_at-kind.ensures ∙ q)) (λ q. c.in_default.rest.0.1 (c.kind_at-kind.ensures ∙ q)) (λ q. c.in_default.rest.1 (c.kind_at-kind.ensures ∙ q)))

@@ -11,26 +11,26 @@ use Rattle.transition.proofs.draw_updated.Goals as goal
 
 pub draw_held-requires : goal.draw_held-requires
 draw_held-requires c =
-    let tells = tells-updated (watch_rule c.args.rule) (live_rows c.args.room.now) (slot_in c.args.room.now c.args.wait c.args.i) c.requires.1.1.0
+    let tells = tells-updated (watch_rule c.args.rule) (live_rows c.args.room.now) (slot_in c.args.room.now c.args.wait c.args.i) c.requires.i_value
     (meets-is _ c.mask_at.ensures c.meet.ensures ∙ c.if-meet.true) in
-    (c.requires.0, (c.requires.1.0, rw tells.old at c.requires.1.1.1.1.old))
+    (c.requires.stands, (c.requires.i_bound, rw tells.old at c.requires.room_for_all.old))
 
 pub draw_live-requires : goal.draw_live-requires
 unfolding table_bytes
 draw_live-requires c =
-    let tells = tells-updated (watch_rule c.args.rule) (live_rows c.args.room.now) (slot_in c.args.room.now c.args.wait c.args.i) c.requires.1.1.0
+    let tells = tells-updated (watch_rule c.args.rule) (live_rows c.args.room.now) (slot_in c.args.room.now c.args.wait c.args.i) c.requires.i_value
     (meets-is _ c.mask_at.ensures c.meet.ensures ∙ c.if-meet.true) in
-    let room = room-below c.draw_held.ensures.frame (rw tells.new at c.requires.1.1.1.1.new) (omega arith) in
-    (still-live c.draw_held.ensures.frame (omega arith) c.requires.1.1.1.0, rw (rows-kept c.draw_held.ensures.frame (omega arith) c.requires.1.1.1.0.stands, c.handle_at-handle.ensures) room)
+    let room = room-below c.draw_held.ensures.frame (rw tells.new at c.requires.room_for_all.new) (omega arith) in
+    (still-live c.draw_held.ensures.frame (omega arith) c.requires.live_rises, rw (rows-kept c.draw_held.ensures.frame (omega arith) c.requires.live_rises.stands, c.handle_at-handle.ensures) room)
 
 pub returns-then-meet : goal.returns-then-meet
 returns-then-meet c =
-    shown-updated c.requires.1.1.1.1
-    (tells-updated _ _ _ c.requires.1.1.0 (meets-is _ c.mask_at.ensures c.meet.ensures ∙ c.if-meet.true))
+    shown-updated c.requires.room_for_all
+    (tells-updated _ _ _ c.requires.i_value (meets-is _ c.mask_at.ensures c.meet.ensures ∙ c.if-meet.true))
     c.draw_held.ensures
-    (rw (rows-kept c.draw_held.ensures.frame (omega arith) c.requires.1.1.1.0.stands, c.handle_at-handle.ensures) at c.draw_live.ensures)
+    (rw (rows-kept c.draw_held.ensures.frame (omega arith) c.requires.live_rises.stands, c.handle_at-handle.ensures) at c.draw_live.ensures)
 
 pub returns : goal.returns
 returns c =
-    shown-nowhere c.requires.1.1.1.1
-    (tells-missed _ _ _ c.requires.1.1.0 (meets-is _ c.mask_at.ensures c.meet.ensures ∙ c.if-meet.false))
+    shown-nowhere c.requires.room_for_all
+    (tells-missed _ _ _ c.requires.i_value (meets-is _ c.mask_at.ensures c.meet.ensures ∙ c.if-meet.false))

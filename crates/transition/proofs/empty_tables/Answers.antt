@@ -1,11 +1,6 @@
 -- `transition::empty_tables` meets its contract: each table is emptied, and the ones after it are written outside it.
-use Rattle.slots.specs.Slots.{table_bytes}
 use Rattle.transition.proofs.Drawing.{all-emptied}
 use Rattle.transition.proofs.empty_tables.Goals as goal
-
-pub empty-requires-4 : goal.empty-requires-4
-unfolding table_bytes
-empty-requires-4 c = (returns c).frame.len
 
 pub returns : goal.returns
 returns c =

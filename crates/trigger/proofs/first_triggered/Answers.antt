@@ -8,13 +8,13 @@ use Rattle.trigger.proofs.first_triggered.Goals as goal
 
 pub loop-left-init : goal.loop-left-init
 loop-left-init c =
-    let long : length c.args.plan.order.rules ≡ 16 = search (rules, c.well-formed.1.1.0.1.1.1.1.1.1.1.0) in
+    let long : length c.args.plan.order.rules ≡ 16 = search (rules, c.well_formed.1.1.0.1.1.1.1.1.1.1.0) in
     walk_start _ _ _ (omega (arith, long, c.requires))
 
 pub is_triggered-requires : goal.is_triggered-requires
 is_triggered-requires c =
-    let below = walk-below c.loop-left.invariant c.loop-left-test.true _ c.wide-k.ensures.0 refl c.requires.1.1.1 in
-    (c.requires.0, ((c.requires.1.0, below), c.requires.1.1.0))
+    let below = walk-below c.loop-left.invariant c.loop-left-test.true _ c.wide-k.ensures.0 refl c.requires.numbers in
+    (c.requires.laid, ((c.requires.count_bound, below), c.requires.planned))
 
 pub returns-then-is_triggered : goal.returns-then-is_triggered
 returns-then-is_triggered c =

@@ -11,7 +11,7 @@ use Rattle.working.proofs.with_values.Goals as goal
 pub loop-c-init : goal.loop-c-init
 loop-c-init c =
     let bytes : Bytes c.args.s.now = λ i. (c.type_inv.s i).fits in
-    filling-start c.args.s.now bytes c.args.mask c.args.at c.args.e c.requires.1
+    filling-start c.args.s.now bytes c.args.mask c.args.at c.args.e c.requires.fact
 
 pub word32-requires : goal.word32-requires
 word32-requires c =

@@ -10,23 +10,32 @@ use Rattle.working.proofs.work_out_all.Goals as goal
 pub size-n-requires : goal.size-n-requires
 unfolding table_bytes
 size-n-requires c =
-    omega (arith, (chosen-stands c.requires.0 c.empty.ensures).fits)
+    omega (arith, (chosen-stands c.requires.laid c.empty.ensures).fits)
 
 pub loop-left-init : goal.loop-left-init
 loop-left-init c =
-    turning-start c.requires.0 c.empty.ensures _ _ c.size-n.ensures
+    turning-start c.requires.laid c.empty.ensures _ _ c.size-n.ensures
 
 pub push_from-requires : goal.push_from-requires
 push_from-requires c =
-    (c.loop-left.invariant.stands, (turning-room c.loop-left.invariant c.loop-left-test.true, (omega arith, (turning-stands c.loop-left.invariant, omega (arith, turning-sized c.loop-left.invariant)))))
+    record {
+      stands = c.loop-left.invariant.stands;
+      base_bound = turning-room c.loop-left.invariant c.loop-left-test.true;
+      most_bound = omega arith;
+      stands_2 = turning-stands c.loop-left.invariant;
+      i_bound = omega (arith, turning-sized c.loop-left.invariant);
+    }
 
 pub work_out_row-requires : goal.work_out_row-requires
 work_out_row-requires c =
-    (turning-ready c.loop-left.invariant c.loop-left-test.true c.push_from.ensures, c.requires.1)
+    record {
+      as_chosen = turning-ready c.loop-left.invariant c.loop-left-test.true c.push_from.ensures;
+      mask_bound = c.requires.mask_bound;
+    }
 
 pub returns-then-not-work_out_row : goal.returns-then-not-work_out_row
 returns-then-not-work_out_row c =
-    turning-failed c.requires.0 c.empty.ensures _ _ (turning-works c.loop-left.invariant c.loop-left-test.true c.push_from.ensures c.work_out_row.ensures)
+    turning-failed c.requires.laid c.empty.ensures _ _ (turning-works c.loop-left.invariant c.loop-left-test.true c.push_from.ensures c.work_out_row.ensures)
     (turning-out c.loop-left.invariant c.loop-left-test.true c.push_from.ensures c.work_out_row.ensures c.if-not-work_out_row.true)
 
 pub loop-left-preserved : goal.loop-left-preserved
@@ -36,4 +45,4 @@ loop-left-preserved c =
 
 pub returns : goal.returns
 returns c =
-    turning-done c.requires.0 c.empty.ensures _ _ c.loop-left.invariant c.loop-left-test.false
+    turning-done c.requires.laid c.empty.ensures _ _ c.loop-left.invariant c.loop-left-test.false

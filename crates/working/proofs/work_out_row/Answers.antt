@@ -11,15 +11,22 @@ use Rattle.working.proofs.work_out_row.Goals as goal
 
 pub loop-c-init : goal.loop-c-init
 loop-c-init c =
-    storing-start c.args.book.now c.args.mask c.args.at c.requires.0
+    storing-start c.args.book.now c.args.mask c.args.at c.requires.as_chosen
 
 pub work_out-requires : goal.work_out-requires
 work_out-requires c =
-    (changed-stands c.loop-c.invariant.changed, changed-below c.loop-c.invariant.changed)
+    record {
+      stands = changed-stands c.loop-c.invariant.changed;
+      i_bound = changed-below c.loop-c.invariant.changed;
+    }
 
 pub put_value-requires : goal.put_value-requires
 put_value-requires c =
-    (c.loop-c.invariant.changed.works.stands, (changed-within c.loop-c.invariant.changed, c.loop-c-test.true))
+    record {
+      stands = c.loop-c.invariant.changed.works.stands;
+      i_bound = changed-within c.loop-c.invariant.changed;
+      column_bound = c.loop-c-test.true;
+    }
 
 pub returns-in-Out : goal.returns-in-Out
 unfolding sum_meant expression_or
@@ -50,4 +57,4 @@ loop-c-preserved c =
 
 pub returns : goal.returns
 returns c =
-    storing-done c.args.book.now c.args.mask c.loop-c.invariant c.requires.1 c.loop-c-test.false
+    storing-done c.args.book.now c.args.mask c.loop-c.invariant c.requires.mask_bound c.loop-c-test.false

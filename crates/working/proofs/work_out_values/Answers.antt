@@ -16,14 +16,21 @@ empty-requires c = omega arith
 pub with_values-requires : goal.with_values-requires
 unfolding ones
 with_values-requires c =
-    (omega arith, c.requires.1)
+    record {
+      mask_bound = omega arith;
+      fact = c.requires.fact;
+    }
 
 pub push-requires : goal.push-requires
 push-requires c =
-    (c.empty.ensures.stands, (room-for-one c.requires.0 c.empty.ensures, omega arith))
+    record {
+      stands = c.empty.ensures.stands;
+      base_bound = room-for-one c.requires.laid c.empty.ensures;
+      most_bound = omega arith;
+    }
 
 pub returns : goal.returns
 returns c =
     let bytes : Bytes c.args.s.now = λ i. (c.type_inv.s i).fits in
-    one-row c.requires.0 c.empty.ensures c.with_values.result c.push.ensures
-    (ap (λ (r : Row). r.values) c.with_values.ensures ∙ four-values c.args.s.now bytes c.args.at c.requires.1 _)
+    one-row c.requires.laid c.empty.ensures c.with_values.result c.push.ensures
+    (ap (λ (r : Row). r.values) c.with_values.ensures ∙ four-values c.args.s.now bytes c.args.at c.requires.fact _)
