@@ -48,7 +48,7 @@ def by_clause(body, names):
         if not depth:
             break
         i -= 1
-    if not re.search(r"(^|=|\bin|\s)\s*$", text[:i]) or re.search(r"[\w)'.-]\s*$", re.sub(r"\bin\s*$", "", text[:i])):
+    if not re.search(r"(^|=|\bin)\s*$", text[:i]):
         return body
     parts, rest = [], text[i + 1 : -1]
     while len(parts) < len(names) - 1:
@@ -61,9 +61,21 @@ def by_clause(body, names):
             if not (rest.startswith("(") and closes(rest)):
                 return body
             rest = rest[1:-1]
-    parts.append(rest)
+    parts.append(rest.rstrip(" ,\n"))
     fields = "".join(f"\n      {n} = {' '.join(q.split()) if len(q) < 100 else q};" for n, q in zip(names, parts))
     return text[:i] + "record {" + fields + "\n    }"
+
+
+def projected(body, names):
+    """What a lemma gives as nested pairs, as a record of the callee's clauses."""
+    m = re.match(r"(\s*=\s*)((?:let (?:.|\n)*? in\s+)*)((?:.|\n)*)$", body)
+    if not m or re.match(r"(omega|search|grind|record|rw|simp|\()", m.group(3)):
+        return body
+    fields = []
+    for i, n in enumerate(names):
+        last = i == len(names) - 1
+        fields.append(f"{n} = given{'.1' * (i if last else i)}{'' if last else '.0'}")
+    return f"{m.group(1)}{m.group(2)}let given = {m.group(3).strip()} in record {{ {'; '.join(fields)} }}"
 
 
 def closes(text):
@@ -111,6 +123,11 @@ class Function:
         above = [place]
         while self.parent[above[-1]]:
             above.append(self.parent[above[-1]])
+        for here in above:
+            if self.arm[here]:
+                found = self.through(self.arm[here], name, rest)
+                if found:
+                    return found, cur
         for here in chain + above + list(self.parent):
             if even(self.step[here][0]) == name:
                 return self.within(here, rest, self.step[here][1]), cur
@@ -140,15 +157,9 @@ class Function:
         step, _, fields = arm
         best = None
         for new, old, path in fields:
-            if even(old) != name:
-                continue
-            if rest[1 : 1 + len(path)] == path and path:
-                if best is None or len(path) > len(best[1]):
-                    best = (new, path)
-        if best:
-            new, path = best
-            return ".".join(["c", step, new] + rest[1 + len(path) :])
-        return None
+            if even(old) == name and rest[1 : 1 + len(path)] == path and (best is None or len(path) > len(best[1])):
+                best = (new, path)
+        return best and ".".join(["c", step, best[0]] + rest[1 + len(best[1]) :])
 
 
 def blocks(text):
@@ -355,7 +366,8 @@ def turned(path, fun, crate, name, whole=False):
             return body
         for callee, names in REQUIRED.items():
             if callee.split("::")[-1] == m.group(1) and callee in n["params"]:
-                return by_clause(body, names)
+                new = by_clause(body, names)
+                return new if new != body else projected(body, names)
         return body
 
     for i, (old, new) in enumerate(needs):

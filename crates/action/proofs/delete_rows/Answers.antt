@@ -10,10 +10,10 @@ choose-requires c = c.requires.running.represents.laid
 pub delete_all-requires : goal.delete_all-requires
 delete_all-requires c =
     let made = table-chosen c.args.book.now c.args.triggers c.args.table c.args.terms c.requires.table_bound c.choose.ensures in
-    let aside = aside-chosen c.requires.running.represents.laid made in (
-      running-aside aside (λ k. (c.type_inv.room k).fits) c.requires.running,
-      taken-rows c.requires.running aside c.args.table (terms_meant c.args.book.now c.args.triggers c.args.terms) made.rows,
-    )
+    let aside = aside-chosen c.requires.running.represents.laid made in record {
+      running = running-aside aside (λ k. (c.type_inv.room k).fits) c.requires.running;
+      taken = taken-rows c.requires.running aside c.args.table (terms_meant c.args.book.now c.args.triggers c.args.terms) made.rows;
+    }
 
 pub returns : goal.returns
 returns c =

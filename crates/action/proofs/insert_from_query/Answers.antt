@@ -30,7 +30,7 @@ insert_all-requires c =
     record {
       running = running-aside (prepared c.requires.running.represents.laid c.choose.ensures c.work_out_all.ensures).aside
           (λ k. (c.type_inv.room k).fits) c.requires.running;
-      table_bound = c.requires.table_bound,;
+      table_bound = c.requires.table_bound;
     }
 
 pub returns : goal.returns

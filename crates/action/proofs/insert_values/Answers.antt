@@ -19,7 +19,7 @@ insert_all-requires c =
     record {
       running = running-aside (aside-worked c.requires.running.represents.laid c.work_out_values.ensures.works)
           (λ k. (c.type_inv.room k).fits) c.requires.running;
-      table_bound = c.requires.table_bound,;
+      table_bound = c.requires.table_bound;
     }
 
 pub returns : goal.returns

@@ -8,7 +8,11 @@ pub insert_values-requires : goal.insert_values-requires
 unfolding operation_meant
 insert_values-requires c =
     let fit = insert-fits (rw c.in-Insert.is c c.requires.fit_operation) in
-    (c.requires.running, (fit.0, fit.1))
+    record {
+      running = c.requires.running;
+      table_bound = fit.0;
+      values_len = fit.1;
+    }
 
 pub delete_one-requires : goal.delete_one-requires
 delete_one-requires c = c.requires.running
@@ -17,7 +21,11 @@ pub update_one-requires : goal.update_one-requires
 unfolding operation_meant
 update_one-requires c =
     let fit = update-fits (rw c.in-Update.is c c.requires.fit_operation) in
-    (c.requires.running, (fit.0, fit.1))
+    record {
+      running = c.requires.running;
+      mask_bound = fit.0;
+      values_len = fit.1;
+    }
 
 pub returns-in-Insert : goal.returns-in-Insert
 unfolding operation_meant Actions.operate

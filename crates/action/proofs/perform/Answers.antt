@@ -8,13 +8,21 @@ pub insert_values-requires : goal.insert_values-requires
 unfolding action_meant
 insert_values-requires c =
     let fit = insert_row-fits (rw c.in-Insert.is c c.requires.fit_action) in
-    (c.requires.running, (fit.0, fit.1))
+    record {
+      running = c.requires.running;
+      table_bound = fit.0;
+      values_len = fit.1;
+    }
 
 pub insert_from_query-requires : goal.insert_from_query-requires
 unfolding action_meant
 insert_from_query-requires c =
     let fit = insert_from_query-fits (rw c.in-InsertFromQuery.is c c.requires.fit_action) in
-    (c.requires.running, (fit.0, fit.1))
+    record {
+      running = c.requires.running;
+      table_bound = fit.0;
+      expressions_len = fit.1;
+    }
 
 pub delete_rows-requires : goal.delete_rows-requires
 unfolding action_meant
@@ -28,7 +36,12 @@ pub update_rows-requires : goal.update_rows-requires
 unfolding action_meant
 update_rows-requires c =
     let fit = update_rows-fits (rw c.in-Update.is c c.requires.fit_action) in
-    (c.requires.running, (fit.0, (fit.1, fit.2)))
+    record {
+      running = c.requires.running;
+      table_bound = fit.0;
+      mask_bound = fit.1;
+      expressions_len = fit.2;
+    }
 
 pub returns-in-Rollback : goal.returns-in-Rollback
 unfolding action_meant Actions.perform

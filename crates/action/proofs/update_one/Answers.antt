@@ -25,7 +25,7 @@ pub slot_at-old-requires : goal.slot_at-old-requires
 slot_at-old-requires c =
     record {
       stands = c.requires.running.represents.laid.live;
-      i_bound = found_within c.requires.running c.args.handle (sym c.find-found.ensures ∙ c.in-At.is),;
+      i_bound = found_within c.requires.running c.args.handle (sym c.find-found.ensures ∙ c.in-At.is);
     }
 
 pub with_values-new-requires : goal.with_values-new-requires

@@ -36,4 +36,4 @@ unfolding action_or action action_of
 returns-in_default c =
     sym
     (none-chosen (action_of c.args.triggers) c.byte-kind.ensures
-    (rw (ne_eqb _ 0 c.in_default.rest.0.0.0.0.1, ne_eqb _ 1 c.in_default.rest.0.0.0.1, ne_eqb _ 2 c.in_default.rest.0.0.1, ne_eqb _ 3 c.in_default.rest.0.1, ne_eqb _ 4 c.in_default.rest.1)))
+    (rw (ne_eqb _ 0 c.in_default.in_default-own.rest.0.0.0.0.1, ne_eqb _ 1 c.in_default.in_default-own.rest.0.0.0.1, ne_eqb _ 2 c.in_default.in_default-own.rest.0.0.1, ne_eqb _ 3 c.in_default.in_default-own.rest.0.1, ne_eqb _ 4 c.in_default.in_default-own.rest.1)))

@@ -25,8 +25,8 @@ returns-in-Short c =
 
 pub returns-in_default : goal.returns-in_default
 unfolding actions_or ByteLayouts.actions
-returns-in_default c = rw (looked-below c.byte-count.ensures 1 4 c.if-count-lt1.true)
+returns-in_default c = rw (looked-below c.byte-count.ensures 1 4 c.in_default.if-count-lt1-own.true)
 
 pub returns-in_default-2 : goal.returns-in_default-2
 unfolding actions_or ByteLayouts.actions
-returns-in_default-2 c = rw (looked-above c.byte-count.ensures 1 4 c.if-count-lt5.false)
+returns-in_default-2 c = rw (looked-above c.byte-count.ensures 1 4 c.in_default.if-count-lt5-own.false)

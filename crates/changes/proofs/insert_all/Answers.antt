@@ -31,10 +31,10 @@ overflow_sub-n c = c.loop-left.invariant.few
 
 pub slot_at-e-requires : goal.slot_at-e-requires
 slot_at-e-requires c =
-    let space = sym c.space_for.ensures ∙ c.in-Enough.is in (
-      (inserting-running c.requires.running c.requires.table_bound c.size-n.ensures space c.loop-left.invariant).represents.laid.worked,
-      inserting-within c.requires.running c.requires.table_bound c.size-n.ensures space c.loop-left.invariant c.loop-left-test.true,
-    )
+    let space = sym c.space_for.ensures ∙ c.in-Enough.is in record {
+      stands = (inserting-running c.requires.running c.requires.table_bound c.size-n.ensures space c.loop-left.invariant).represents.laid.worked;
+      i_bound = inserting-within c.requires.running c.requires.table_bound c.size-n.ensures space c.loop-left.invariant c.loop-left-test.true;
+    }
 
 pub narrow-requires : goal.narrow-requires
 narrow-requires c = tt

@@ -19,7 +19,7 @@ pub slot_at-e-requires : goal.slot_at-e-requires
 slot_at-e-requires c =
     record {
       stands = (updating-running c.requires.running c.requires.mask_bound c.requires.rewritten c.size-n.ensures c.loop-left.invariant).represents.laid.worked;
-      i_bound = updating-within c.requires.running c.requires.mask_bound c.requires.rewritten c.size-n.ensures c.loop-left.invariant c.loop-left-test.true,;
+      i_bound = updating-within c.requires.running c.requires.mask_bound c.requires.rewritten c.size-n.ensures c.loop-left.invariant c.loop-left-test.true;
     }
 
 pub wide-requires : goal.wide-requires

@@ -13,7 +13,12 @@ pub draw-requires : goal.draw-requires
 draw-requires c =
     let low : c.args.k < 16 = omega (arith, c.requires.count_bound) in
     let few = draw-few c.requires.ready.settled _ low c.requires.k_bound c.requires.ready.reached _ in
-    (c.requires.ready.settled.represents.laid, (low, (live-sorted c.requires.ready.reached c.requires.ready.settled.represents, few)))
+    record {
+      laid = c.requires.ready.settled.represents.laid;
+      k_bound = low;
+      sorted = live-sorted c.requires.ready.reached c.requires.ready.settled.represents;
+      few = few;
+    }
 
 pub run_actions-requires : goal.run_actions-requires
 run_actions-requires c =

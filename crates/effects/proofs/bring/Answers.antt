@@ -8,7 +8,7 @@ loop-i-init c = bring-start _ _ _ c.requires.loom c.requires.from_le_to
 
 pub push_from-requires : goal.push_from-requires
 push_from-requires c =
-    bring-pushes c.requires.loom c.requires.to_bound c.loop-i.invariant c.requires.from_bound c.loop-i-test.true
+    let given = bring-pushes c.requires.loom c.requires.to_bound c.loop-i.invariant c.requires.from_bound c.loop-i-test.true in record { stands = given.0; base_bound = given.1.0; most_bound = given.1.1.0; stands_2 = given.1.1.1.0; i_bound = given.1.1.1.1 }
 
 pub loop-i-preserved : goal.loop-i-preserved
 loop-i-preserved c =

@@ -46,7 +46,11 @@ push-requires c =
     let free =
     joined_free c.args.room.now _ _ _ c.slot_at-e.ensures c.slot_at-op.ensures c.join_slot-x.ensures
     c.requires.j_len_bound c.if-x-eq-NOTHING.false in
-    (c.requires.loom.spare, (free, omega arith))
+    record {
+      stands = c.requires.loom.spare;
+      base_bound = free;
+      most_bound = omega arith;
+    }
 
 pub returns : goal.returns
 returns c =

@@ -41,7 +41,12 @@ insert_at-requires c =
     (rw (← c.is_at.ensures) c.if-is_at.false) c.requires.takes in
     let low = place-within c.args.op.handle (table_at c.args.room.now 60000) in
     let len = table-length c.args.room.now 60000 in
-    (c.requires.stands, (free, (omega arith, omega (arith, c.place_near-i.ensures, low, len))))
+    record {
+      stands = c.requires.stands;
+      base_bound = free;
+      most_bound = omega arith;
+      i_bound = omega (arith, c.place_near-i.ensures, low, len);
+    }
 
 pub returns : goal.returns
 returns c =

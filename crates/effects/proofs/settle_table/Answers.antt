@@ -32,12 +32,15 @@ place_from-i-requires c =
 pub stays-requires : goal.stays-requires
 stays-requires c =
     let ready = go-ready c.loop-j.invariant c.requires.settles in
-    (ready.waits, ready.sorted)
+    record {
+      stands = ready.waits;
+      sorted = ready.sorted;
+    }
 
 pub weave-requires : goal.weave-requires
 weave-requires c =
-    go-weaves c.loop-j.invariant (go-reads c.loop-j.invariant c.size-m.ensures c.loop-j-test.true) c.slot_at-op.ensures c.place_from-i.ensures
-    c.requires.settles c.requires.table_len_bound
+    let given = go-weaves c.loop-j.invariant (go-reads c.loop-j.invariant c.size-m.ensures c.loop-j-test.true) c.slot_at-op.ensures c.place_from-i.ensures
+    c.requires.settles c.requires.table_len_bound in record { settles = given.0; passed = given.1.0; after_len_bound = given.1.1 }
 
 pub returns-then-not-stays : goal.returns-then-not-stays
 returns-then-not-stays c =

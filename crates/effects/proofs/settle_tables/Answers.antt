@@ -15,10 +15,10 @@ returns-then-tables-k-gt-INACTIVE c =
 
 pub settle_table-requires : goal.settle_table-requires
 settle_table-requires c =
-    let within : c.loop-k.k < 16 = omega arith in (
-      next-settles c.requires _ c.loop-k.invariant within (omega (arith, c.if-tables-k-lt-INACTIVE.true)),
-      next_fits_lem c.requires _ c.loop-k.invariant within (omega (arith, c.if-tables-k-lt-INACTIVE.true)),
-    )
+    let within : c.loop-k.k < 16 = omega arith in record {
+      settles = next-settles c.requires _ c.loop-k.invariant within (omega (arith, c.if-tables-k-lt-INACTIVE.true));
+      table_len_bound = next_fits_lem c.requires _ c.loop-k.invariant within (omega (arith, c.if-tables-k-lt-INACTIVE.true));
+    }
 
 pub loop-k-preserved : goal.loop-k-preserved
 loop-k-preserved c =

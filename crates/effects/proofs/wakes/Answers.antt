@@ -26,4 +26,4 @@ returns-else-has_bit c =
 
 pub returns-in_default : goal.returns-in_default
 returns-in_default c =
-    wakes-nothing _ _ c.in_default.rest.0.0.1 c.in_default.rest.0.1 c.in_default.rest.1
+    wakes-nothing _ _ c.in_default.in_default-own.rest.0.0.1 c.in_default.in_default-own.rest.0.1 c.in_default.in_default-own.rest.1

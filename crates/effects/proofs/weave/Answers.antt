@@ -31,7 +31,10 @@ loop-j-init c =
 pub table_at-requires : goal.table_at-requires
 table_at-requires c =
     let loom = weave-loom c.requires.settles c.empty.ensures in
-    ((weaving-loom loom c.loop-j.invariant).stretch, weaving-reads loom c.loop-j.invariant c.size-m.ensures c.loop-j-test.true)
+    record {
+      stands = (weaving-loom loom c.loop-j.invariant).stretch;
+      i_bound = weaving-reads loom c.loop-j.invariant c.size-m.ensures c.loop-j-test.true;
+    }
 
 pub weave_one-i-requires : goal.weave_one-i-requires
 weave_one-i-requires c =
@@ -57,12 +60,12 @@ pub bring-requires : goal.bring-requires
 bring-requires c =
     let loom = weave-loom c.requires.settles c.empty.ensures in
     let fits = weave-fits c.requires.settles c.empty.ensures c.args.table c.args.first c.args.after c.requires.after_len_bound in
-    last-brings loom c.loop-j.invariant c.size-m.ensures c.size-n.ensures c.loop-j-test.false fits
+    let given = last-brings loom c.loop-j.invariant c.size-m.ensures c.size-n.ensures c.loop-j-test.false fits in record { loom = given.0; from_le_to = given.1.0; to_bound = given.1.1.0; from_bound = given.1.1.1 }
 
 pub put_tail-requires : goal.put_tail-requires
 put_tail-requires c =
-    put-ready c.requires.settles c.requires.passed c.requires.after_len_bound c.empty.ensures c.loop-j.invariant
-    c.size-m.ensures c.size-n.ensures c.loop-j-test.false c.bring.ensures
+    let given = put-ready c.requires.settles c.requires.passed c.requires.after_len_bound c.empty.ensures c.loop-j.invariant
+    c.size-m.ensures c.size-n.ensures c.loop-j-test.false c.bring.ensures in record { stands = given.0; most_bound = given.1.0; stands_2 = given.1.1.0; held_bound = given.1.1.1.0; first_bound = given.1.1.1.1.0; from_bound = given.1.1.1.1.1 }
 
 pub returns : goal.returns
 returns c =

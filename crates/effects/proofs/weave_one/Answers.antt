@@ -21,7 +21,7 @@ place_from-i-requires c =
 
 pub bring-requires : goal.bring-requires
 bring-requires c =
-    one-brings c.requires c.handle_at-handle.ensures c.place_from-i.ensures
+    let given = one-brings c.requires c.handle_at-handle.ensures c.place_from-i.ensures in record { loom = given.0; from_le_to = given.1.0; to_bound = given.1.1.0; from_bound = given.1.1.1 }
 
 pub is_at-requires : goal.is_at-requires
 is_at-requires c =
@@ -29,8 +29,8 @@ is_at-requires c =
 
 pub bring_joined-requires : goal.bring_joined-requires
 bring_joined-requires c =
-    one-joins c.requires c.handle_at-handle.ensures c.place_from-i.ensures c.bring.ensures
-    (sym c.is_at.ensures ∙ c.if-is_at.true)
+    let given = one-joins c.requires c.handle_at-handle.ensures c.place_from-i.ensures c.bring.ensures
+    (sym c.is_at.ensures ∙ c.if-is_at.true) in record { loom = given.0; i_bound = given.1.0; j_bound = given.1.1.0; j_len_bound = given.1.1.1 }
 
 pub overflow_add-result : goal.overflow_add-result
 overflow_add-result c =
@@ -44,8 +44,8 @@ returns-then-is_at c =
 
 pub push_from-requires : goal.push_from-requires
 push_from-requires c =
-    one-pushes c.requires c.handle_at-handle.ensures c.place_from-i.ensures c.bring.ensures
-    (sym c.is_at.ensures ∙ c.if-is_at.false)
+    let given = one-pushes c.requires c.handle_at-handle.ensures c.place_from-i.ensures c.bring.ensures
+    (sym c.is_at.ensures ∙ c.if-is_at.false) in record { stands = given.0; base_bound = given.1.0; most_bound = given.1.1.0; stands_2 = given.1.1.1.0; i_bound = given.1.1.1.1 }
 
 pub returns : goal.returns
 returns c =

@@ -11,7 +11,10 @@ returns-then-out-lt-CHECK c =
 pub plan_of-plan-requires : goal.plan_of-plan-requires
 plan_of-plan-requires c =
     let w = told c.args.book.now c.judge.ensures.told c.in-Is.is in
-    (w.few, w.read)
+    record {
+      n_bound = w.few;
+      s_value = w.read;
+    }
 
 pub returns-then-not-order : goal.returns-then-not-order
 returns-then-not-order c =
@@ -23,7 +26,10 @@ pub put_numbers-requires : goal.put_numbers-requires
 put_numbers-requires c =
     let w = told c.args.book.now c.judge.ensures.told c.in-Is.is in
     let few = w.few in
-    (few, omega arith)
+    record {
+      n_bound = few;
+      n_in_bounds = omega arith;
+    }
 
 pub returns-else-not-order : goal.returns-else-not-order
 returns-else-not-order c =

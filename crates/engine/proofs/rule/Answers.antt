@@ -6,7 +6,10 @@ use Rattle.engine.proofs.rule.Goals as goal
 pub plan_of-plan-requires : goal.plan_of-plan-requires
 plan_of-plan-requires c =
     let w = told c.args.book.now c.judge.ensures.told c.in-Is.is in
-    (w.few, w.read)
+    record {
+      n_bound = w.few;
+      s_value = w.read;
+    }
 
 pub returns-then-not-order : goal.returns-then-not-order
 returns-then-not-order c =

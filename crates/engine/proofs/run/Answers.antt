@@ -17,7 +17,10 @@ returns-then-room-lt-ROOM c = room-refused (omega (arith, c.if-out-lt-OUTPUT.fal
 pub plan_of-plan-requires : goal.plan_of-plan-requires
 plan_of-plan-requires c =
     let w = told c.args.book.now c.judge-in-Is.ensures.told c.in-Is-judge.is in
-    (w.few, w.read)
+    record {
+      n_bound = w.few;
+      s_value = w.read;
+    }
 
 -- no order
 pub returns-then-not-order : goal.returns-then-not-order

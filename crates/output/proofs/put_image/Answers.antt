@@ -47,7 +47,7 @@ live_row-requires c =
 pub put_row-requires : goal.put_row-requires
 put_row-requires c = record {
       in_bounds = simp (length-take, length-drop) (omega (arith, writing-length c.loop-left.invariant));
-      table_bound = c.live_row.ensures.table,;
+      table_bound = c.live_row.ensures.table;
     }
 
 pub loop-left-preserved : goal.loop-left-preserved

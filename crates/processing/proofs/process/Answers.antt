@@ -10,7 +10,12 @@ steps-requires c =
     let midway =
     log-midway c.args.book.now c.args.log.now c.args.plan c.args.operations c.run_log.ensures c.in-Went.is
     c.requires.starts in
-    (c.requires.count_bound, (c.requires.planned, (c.requires.numbers, midway)))
+    record {
+      count_bound = c.requires.count_bound;
+      planned = c.requires.planned;
+      numbers = c.requires.numbers;
+      midway = midway;
+    }
 
 pub returns-in-Went : goal.returns-in-Went
 returns-in-Went c =

@@ -30,7 +30,7 @@ pub value_at-requires : goal.value_at-requires
 value_at-requires c =
     record {
       stands = c.requires.stands;
-      i_bound = rw (c.wide-in-loop-j.ensures.0, ← table-length c.args.room.now c.args.base) (c.requires.within.inside _ c.loop-j-test.true),;
+      i_bound = rw (c.wide-in-loop-j.ensures.0, ← table-length c.args.room.now c.args.base) (c.requires.within.inside _ c.loop-j-test.true);
     }
 
 pub bounds-values-j : goal.bounds-values-j

@@ -41,9 +41,6 @@ pub bounds-places-count : goal.bounds-places-count
 bounds-places-count c =
     narrowing-room _ _ c.loop-j.invariant c.loop-j-test.true
 
-pub overflow_add-count : goal.overflow_add-count
-overflow_add-count c = omega (arith, array-write-places c)
-
 pub loop-j-preserved : goal.loop-j-preserved
 loop-j-preserved c =
     let value = cell-read (table_at c.args.room.now c.args.base) c.args.column c.wide.ensures.0 c.value_at-v.ensures in

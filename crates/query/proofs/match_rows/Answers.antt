@@ -22,7 +22,7 @@ returns-then-others-eq0 c =
     c.if-negated.false
 
 pub pairs_at-requires : goal.pairs_at-requires
-pairs_at-requires c = c.requires.1.1.1
+pairs_at-requires c = let given = c.requires.1.1.1 in record { in_bounds = given.0; at_len_bound = given.1 }
 
 pub matched-requires : goal.matched-requires
 matched-requires c =

@@ -9,9 +9,6 @@ use Rattle.query.proofs.some_of_64.Goals as goal
 pub loop-j-init : goal.loop-j-init
 loop-j-init c = counting-start _
 
-pub overflow_add-hits : goal.overflow_add-hits
-overflow_add-hits c = ⊎_elim (λ w. omega arith) (λ w. omega arith) c.if-s0-j-eq0.branch
-
 pub loop-j-preserved : goal.loop-j-preserved
 loop-j-preserved c =
     ⊎_elim

@@ -22,7 +22,12 @@ unfolding term_or
 term_rows-rows-requires c =
     let is = sym c.term_at.ensures ∙ ap (term_or c.args.book.now) c.in-Is.is in
     let few = (term_few c.args.triggers).fit is in
-    (c.requires.laid, (base-stands c.requires.laid c.args.q.source c.requires.base_value, (c.loop-left.invariant.within, few)))
+    record {
+      laid = c.requires.laid;
+      stands = base-stands c.requires.laid c.args.q.source c.requires.base_value;
+      within = c.loop-left.invariant.within;
+      few_pairs = few;
+    }
 
 pub returns-in-Bad : goal.returns-in-Bad
 unfolding all_hold terms_meant term_holds term_or

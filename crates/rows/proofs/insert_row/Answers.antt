@@ -17,8 +17,8 @@ push-requires c =
 
 pub join-requires : goal.join-requires
 join-requires c =
-    insert-takes _ _ _ c.next-handle.ensures c.row_of-new.ensures c.push.ensures
-    (word-put _ _ (omega (arith, c.next-handle.ensures)) (omega arith) c.put_low32.ensures) c.as_effect.ensures c.requires.joinable
+    let given = insert-takes _ _ _ c.next-handle.ensures c.row_of-new.ensures c.push.ensures
+    (word-put _ _ (omega (arith, c.next-handle.ensures)) (omega arith) c.put_low32.ensures) c.as_effect.ensures c.requires.joinable in record { stands = given.0; takes = given.1 }
 
 pub returns : goal.returns
 returns c =

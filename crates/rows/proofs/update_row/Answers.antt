@@ -24,8 +24,8 @@ put_at-requires c =
 
 pub join-requires : goal.join-requires
 join-requires c =
-    found-takes c.args.room.now _ _ c.find_near-found.ensures c.in-At.is 3 _ c.put_at.ensures
-    c.slot_at-old.ensures c.as_effect.ensures c.requires.can_join
+    let given = found-takes c.args.room.now _ _ c.find_near-found.ensures c.in-At.is 3 _ c.put_at.ensures
+    c.slot_at-old.ensures c.as_effect.ensures c.requires.can_join in record { stands = given.0; takes = given.1 }
 
 pub returns : goal.returns
 returns c =

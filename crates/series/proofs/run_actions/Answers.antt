@@ -15,7 +15,10 @@ loop-left-init c = left-start (action _) (run_actions _) _ _ _ c.requires
 pub perform-requires : goal.perform-requires
 perform-requires c =
     let e = action-read c.args.book.now c.args.triggers c.loop-left.here c.action_at.ensures c.in-Is.is in
-    (c.loop-left.invariant.onward.running, (action-fits c.args.triggers).fit e)
+    record {
+      running = c.loop-left.invariant.onward.running;
+      fit_action = (action-fits c.args.triggers).fit e;
+    }
 
 pub returns-in-RolledBack : goal.returns-in-RolledBack
 unfolding actions_meant

@@ -13,7 +13,10 @@ loop-left-init c = left-start operation run_log _ _ 7 c.requires
 pub operate-requires : goal.operate-requires
 operate-requires c =
     let e = operation-read c.args.log.now c.loop-left.here c.operation_at.ensures c.in-Is.is in
-    (c.loop-left.invariant.onward.running, operation-fits.fit e)
+    record {
+      running = c.loop-left.invariant.onward.running;
+      fit_operation = operation-fits.fit e;
+    }
 
 pub returns-in-RolledBack : goal.returns-in-RolledBack
 returns-in-RolledBack c =

@@ -3,9 +3,6 @@ use native.Mathlib.Omega.{arith}
 use Rattle.slots.proofs.Frames.{slot-copied}
 use Rattle.slots.proofs.copy.Goals as goal
 
-pub overflow_add-to-5 : goal.overflow_add-to-5
-overflow_add-to-5 c = omega (arith, known c)
-
 pub put_low32-requires-6 : goal.put_low32-requires-6
 put_low32-requires-6 c = omega (arith, known c)
 

@@ -1,6 +1,7 @@
 -- `slots::find` meets its contract: the handle can only be at its place, and the tests are those of the definition.
 use mathlib.Core.Path.{sym, ◌∙◌}
 use native.Mathlib.Omega.{arith}
+use Rattle.slots.specs.Slots.{table_bytes}
 use Rattle.slots.proofs.Tables.{table-length, table-handle}
 use Rattle.slots.proofs.Order.{find-yes, find-other, find-end}
 use Rattle.slots.proofs.find.Goals as goal
@@ -18,3 +19,19 @@ returns-else-low32-handle c =
 pub returns-else-i-size : goal.returns-else-i-size
 returns-else-i-size c =
     find-end _ _ _ c.place-i.ensures (omega (arith, table-length c.args.room.now c.args.base))
+
+pub size-requires : goal.size-requires
+unfolding table_bytes
+size-requires c = omega arith
+
+pub overflow_mul-i : goal.overflow_mul-i
+unfolding table_bytes
+overflow_mul-i c = omega arith
+
+pub overflow_add-base-then-i-size : goal.overflow_add-base-then-i-size
+unfolding table_bytes
+overflow_add-base-then-i-size c = omega arith
+
+pub low32-requires : goal.low32-requires
+unfolding table_bytes
+low32-requires c = omega arith

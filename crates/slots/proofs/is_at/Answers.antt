@@ -3,7 +3,7 @@ use borrow.Author.Tests.{lt-ltb, le-ltb}
 use native.Mathlib.Omega.{arith}
 use Prim.Native.Nat.{◌≤◌, ◌<◌}
 use lib.ListN.{length}
-use Rattle.slots.specs.Slots.{table_at, hit}
+use Rattle.slots.specs.Slots.{table_bytes, table_at, hit}
 use Rattle.slots.proofs.Tables.{table-length, table-handle}
 use Rattle.slots.proofs.is_at.Goals as goal
 
@@ -18,3 +18,19 @@ unfolding hit
 returns c =
     let past : length (table_at c.args.room.now c.args.base) ≤ c.args.i = omega (arith, table-length c.args.room.now c.args.base) in
     rw (le-ltb _ _ past)
+
+pub size-requires : goal.size-requires
+unfolding table_bytes
+size-requires c = omega arith
+
+pub overflow_mul-i : goal.overflow_mul-i
+unfolding table_bytes
+overflow_mul-i c = omega arith
+
+pub overflow_add-base-then-i-size : goal.overflow_add-base-then-i-size
+unfolding table_bytes
+overflow_add-base-then-i-size c = omega arith
+
+pub low32-requires : goal.low32-requires
+unfolding table_bytes
+low32-requires c = omega arith

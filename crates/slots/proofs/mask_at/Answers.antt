@@ -1,7 +1,8 @@
 -- `slots::mask_at` meets its contract: the field stands in the second word of the slot at the place.
 use mathlib.Core.Path.{sym, ap}
+use native.Mathlib.Omega.{arith}
 use Rattle.slots.specs.declared.Slot.{Slot}
-use Rattle.slots.specs.Slots.{slot_at}
+use Rattle.slots.specs.Slots.{slot_at, table_bytes}
 use Rattle.slots.proofs.Tables.{table-get}
 use Rattle.slots.proofs.mask_at.Goals as goal
 
@@ -9,3 +10,19 @@ pub returns : goal.returns
 unfolding slot_at
 returns c =
     rw c.low32.ensures (sym (ap (λ (e : Slot). e.mask) (table-get _ _ _ c.requires.i_bound)))
+
+pub overflow_mul-i : goal.overflow_mul-i
+unfolding table_bytes
+overflow_mul-i c = omega arith
+
+pub overflow_add-base-2 : goal.overflow_add-base-2
+unfolding table_bytes
+overflow_add-base-2 c = omega arith
+
+pub overflow_add-base-3 : goal.overflow_add-base-3
+unfolding table_bytes
+overflow_add-base-3 c = omega arith
+
+pub low32-requires : goal.low32-requires
+unfolding table_bytes
+low32-requires c = omega arith

@@ -23,3 +23,19 @@ loop-lo-preserved c =
 pub returns : goal.returns
 unfolding table_bytes
 returns c = seek-done _ _ _ _ c.loop-lo.invariant c.loop-lo-test.false
+
+pub size-hi-requires : goal.size-hi-requires
+unfolding table_bytes
+size-hi-requires c = omega arith
+
+pub overflow_mul-mid : goal.overflow_mul-mid
+unfolding table_bytes
+overflow_mul-mid c = omega arith
+
+pub overflow_add-base-in-loop-lo : goal.overflow_add-base-in-loop-lo
+unfolding table_bytes
+overflow_add-base-in-loop-lo c = omega arith
+
+pub low32-requires : goal.low32-requires
+unfolding table_bytes
+low32-requires c = omega arith

@@ -25,3 +25,7 @@ returns-then-handle_at-handle c =
 pub returns : goal.returns
 unfolding table_bytes
 returns c = search rules
+
+pub size-n-requires : goal.size-n-requires
+unfolding table_bytes
+size-n-requires c = omega arith

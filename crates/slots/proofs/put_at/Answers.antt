@@ -1,7 +1,21 @@
 -- `slots::put_at` meets its contract: the slot that is stored takes the place of the list's.
+use native.Mathlib.Omega.{arith}
+use Rattle.slots.specs.Slots.{table_bytes}
 use Rattle.slots.proofs.Tables.{replaced}
 use Rattle.slots.proofs.put_at.Goals as goal
 
 pub returns : goal.returns
 returns c =
     replaced _ _ _ c.requires.stands c.requires.i_bound c.store.ensures
+
+pub overflow_mul-i : goal.overflow_mul-i
+unfolding table_bytes
+overflow_mul-i c = omega arith
+
+pub overflow_add-base-2 : goal.overflow_add-base-2
+unfolding table_bytes
+overflow_add-base-2 c = omega arith
+
+pub store-requires : goal.store-requires
+unfolding table_bytes
+store-requires c = omega arith

@@ -7,9 +7,6 @@ use Rattle.slots.proofs.Frames.{word-put}
 use Rattle.slots.proofs.Tables.{removed}
 use Rattle.slots.proofs.remove_at.Goals as goal
 
-pub overflow_cast-n : goal.overflow_cast-n
-overflow_cast-n c = omega (arith, small c)
-
 pub returns : goal.returns
 unfolding table_bytes
 returns c =

@@ -26,4 +26,4 @@ pub returns-in_default : goal.returns-in_default
 unfolding expression_or expression expression_of
 returns-in_default c =
     sym
-    (none-chosen expression_of c.byte-kind.ensures (rw (ne_eqb _ 0 c.in_default.rest.0.0.1, ne_eqb _ 1 c.in_default.rest.0.1, ne_eqb _ 2 c.in_default.rest.1)))
+    (none-chosen expression_of c.byte-kind.ensures (rw (ne_eqb _ 0 c.in_default.in_default-own.rest.0.0.1, ne_eqb _ 1 c.in_default.in_default-own.rest.0.1, ne_eqb _ 2 c.in_default.in_default-own.rest.1)))

@@ -28,9 +28,9 @@ returns-in-7 c = rw c.in-7.is c.has_bit-in-7.ensures
 
 pub returns-in-0-to-3 : goal.returns-in-0-to-3
 unfolding source_fits
-returns-in-0-to-3 c = rw (lt-ltb _ 4 c.if-n-lt4.true)
+returns-in-0-to-3 c = rw (lt-ltb _ 4 c.in-0-to-3.if-n-lt4-own.true)
 
 pub returns-in_default : goal.returns-in_default
 unfolding source_fits
 returns-in_default c =
-    rw (le-ltb _ 4 c.if-n-lt4.false, ne_eqb _ 4 c.in_default-1.rest.0.0.0.1, ne_eqb _ 5 c.in_default-1.rest.0.0.1, ne_eqb _ 6 c.in_default-1.rest.0.1, ne_eqb _ 7 c.in_default-1.rest.1)
+    rw (le-ltb _ 4 c.in_default.if-n-lt4-own.false, ne_eqb _ 4 c.in_default.in_default-own.rest.0.0.0.1, ne_eqb _ 5 c.in_default.in_default-own.rest.0.0.1, ne_eqb _ 6 c.in_default.in_default-own.rest.0.1, ne_eqb _ 7 c.in_default.in_default-own.rest.1)

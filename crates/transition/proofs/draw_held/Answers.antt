@@ -7,7 +7,13 @@ use Rattle.transition.proofs.draw_held.Goals as goal
 pub push_from-requires : goal.push_from-requires
 push_from-requires c =
     let spare = own-spare _ _ (sym c.table_at.ensures ∙ c.if-table_at-rule.true) c.requires.room_for in
-    (c.requires.room_for.stands, (spare, (omega arith, (c.requires.stands, c.requires.i_bound))))
+    record {
+      stands = c.requires.room_for.stands;
+      base_bound = spare;
+      most_bound = omega arith;
+      stands_2 = c.requires.stands;
+      i_bound = c.requires.i_bound;
+    }
 
 pub returns-then-table_at-rule : goal.returns-then-table_at-rule
 returns-then-table_at-rule c =

@@ -14,7 +14,11 @@ pub draw_held-requires : goal.draw_held-requires
 draw_held-requires c =
     let here = sym c.find_near-found.ensures ∙ c.in-At.is in
     let room = rw (live-found _ _ _ c.requires.live_rises.sorted here) at c.requires.room_for in
-    (c.requires.live_rises.stands, (live_below _ _ here, room))
+    record {
+      stands = c.requires.live_rises.stands;
+      i_bound = live_below _ _ here;
+      room_for = room;
+    }
 
 pub overflow_add-result : goal.overflow_add-result
 overflow_add-result c =

@@ -10,13 +10,20 @@ pub draw_live-requires : goal.draw_live-requires
 draw_live-requires c =
     let tells = tells-inserted (watch_rule c.args.rule) (live_rows c.args.room.now) (slot_in c.args.room.now c.args.wait c.args.i)
     (sym c.kind_at-kind.ensures ∙ c.in-1.is) in
-    (c.requires.live_rises, rw c.handle_at-handle.ensures (rw tells.inserted at c.requires.room_for_all.inserted))
+    record {
+      live_rises = c.requires.live_rises;
+      room_for = rw c.handle_at-handle.ensures (rw tells.inserted at c.requires.room_for_all.inserted);
+    }
 
 pub draw_held-requires : goal.draw_held-requires
 draw_held-requires c =
     let tells = tells-deleted (watch_rule c.args.rule) (live_rows c.args.room.now) (slot_in c.args.room.now c.args.wait c.args.i)
     (sym c.kind_at-kind.ensures ∙ c.in-2.is) in
-    (c.requires.stands, (c.requires.i_bound, rw tells.deleted at c.requires.room_for_all.deleted))
+    record {
+      stands = c.requires.stands;
+      i_bound = c.requires.i_bound;
+      room_for = rw tells.deleted at c.requires.room_for_all.deleted;
+    }
 
 pub draw_updated-requires : goal.draw_updated-requires
 draw_updated-requires c =
@@ -39,4 +46,4 @@ returns-in-3 c = c.draw_updated.ensures
 pub returns-in_default : goal.returns-in_default
 returns-in_default c =
     shown-nowhere c.requires.room_for_all
-    (tells-nothing _ _ _ (λ q. c.in_default.rest.0.0.1 (c.kind_at-kind.ensures ∙ q)) (λ q. c.in_default.rest.0.1 (c.kind_at-kind.ensures ∙ q)) (λ q. c.in_default.rest.1 (c.kind_at-kind.ensures ∙ q)))
+    (tells-nothing _ _ _ (λ q. c.in_default.in_default-own.rest.0.0.1 (c.kind_at-kind.ensures ∙ q)) (λ q. c.in_default.in_default-own.rest.0.1 (c.kind_at-kind.ensures ∙ q)) (λ q. c.in_default.in_default-own.rest.1 (c.kind_at-kind.ensures ∙ q)))

@@ -13,7 +13,11 @@ pub draw_held-requires : goal.draw_held-requires
 draw_held-requires c =
     let tells = tells-updated (watch_rule c.args.rule) (live_rows c.args.room.now) (slot_in c.args.room.now c.args.wait c.args.i) c.requires.i_value
     (meets-is _ c.mask_at.ensures c.meet.ensures ∙ c.if-meet.true) in
-    (c.requires.stands, (c.requires.i_bound, rw tells.old at c.requires.room_for_all.old))
+    record {
+      stands = c.requires.stands;
+      i_bound = c.requires.i_bound;
+      room_for = rw tells.old at c.requires.room_for_all.old;
+    }
 
 pub draw_live-requires : goal.draw_live-requires
 unfolding table_bytes
@@ -21,7 +25,10 @@ draw_live-requires c =
     let tells = tells-updated (watch_rule c.args.rule) (live_rows c.args.room.now) (slot_in c.args.room.now c.args.wait c.args.i) c.requires.i_value
     (meets-is _ c.mask_at.ensures c.meet.ensures ∙ c.if-meet.true) in
     let room = room-below c.draw_held.ensures.frame (rw tells.new at c.requires.room_for_all.new) (omega arith) in
-    (still-live c.draw_held.ensures.frame (omega arith) c.requires.live_rises, rw (rows-kept c.draw_held.ensures.frame (omega arith) c.requires.live_rises.stands, c.handle_at-handle.ensures) room)
+    record {
+      live_rises = still-live c.draw_held.ensures.frame (omega arith) c.requires.live_rises;
+      room_for = rw (rows-kept c.draw_held.ensures.frame (omega arith) c.requires.live_rises.stands, c.handle_at-handle.ensures) room;
+    }
 
 pub returns-then-meet : goal.returns-then-meet
 returns-then-meet c =

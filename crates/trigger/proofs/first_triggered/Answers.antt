@@ -14,7 +14,11 @@ loop-left-init c =
 pub is_triggered-requires : goal.is_triggered-requires
 is_triggered-requires c =
     let below = walk-below c.loop-left.invariant c.loop-left-test.true _ c.wide-k.ensures.0 refl c.requires.numbers in
-    (c.requires.laid, ((c.requires.count_bound, below), c.requires.planned))
+    record {
+      laid = c.requires.laid;
+      count_bound = (c.requires.count_bound, below);
+      planned = c.requires.planned;
+    }
 
 pub returns-then-is_triggered : goal.returns-then-is_triggered
 returns-then-is_triggered c =
