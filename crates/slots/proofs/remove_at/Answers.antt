@@ -39,7 +39,6 @@ overflow_cast-n c =
     let small : c.size-n.result < 4294967296 = rw c.size-n.ensures (low32-lt _ (λ k. (c.slice_known-1.given k).fits) _) in
     omega arith
 
-
 pub put_low32-requires : goal.put_low32-requires
 unfolding table_bytes
 put_low32-requires c = omega arith
