@@ -18,7 +18,7 @@ load_row-requires c = record {
 
 pub loop-left-preserved : goal.loop-left-preserved
 loop-left-preserved c =
-    loading-more c.loop-left.invariant (omega arith) c.Load-row.ensures
+    loading-more c.loop-left.invariant (omega arith) c.load_row.ensures
 
 pub returns : goal.returns
 returns c =

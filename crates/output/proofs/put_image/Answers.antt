@@ -27,7 +27,7 @@ put_head-requires c = record {
 pub loop-left-init : goal.loop-left-init
 loop-left-init c =
     let all : length (table_at c.args.room.now LIVE) ≡ c.size-n.result = table-length c.args.room.now LIVE ∙ sym c.size-n.ensures in
-    writing_start (table_at c.args.room.now LIVE) (low32_at c.args.room.now NEXT) c.size-n.result c.args.out.now c.put_head.new.0 all
+    writing_start (table_at c.args.room.now LIVE) (low32_at c.args.room.now NEXT) c.size-n.result c.args.out.now c.put_head.new.out all
     (omega (arith, c.size-n.ensures, c.requires.stands.size)) c.requires.in_bounds
     (rw c.low32.ensures at c.put_head.ensures)
 
@@ -52,7 +52,7 @@ put_row-requires c = record {
 
 pub loop-left-preserved : goal.loop-left-preserved
 loop-left-preserved c =
-    writing_more c.loop-left.invariant c.loop-left-test.true c.put_row.new.0
+    writing_more c.loop-left.invariant c.loop-left-test.true c.put_row.new.part
     (rw c.live_row.ensures.is at c.put_row.ensures)
 
 pub returns : goal.returns
