@@ -7,7 +7,7 @@ ghost use Rattle.std.specs.Int.Count.{ones};
 ghost use Rattle.meaning.specs.Covers as Covers;
 ghost use Rattle.meaning.specs.Processing.Actions as Actions;
 ghost use Rattle.fields.specs.Fields.{values_at};
-ghost use Rattle.log.specs.Log.{operation_meant};
+ghost use Rattle.transaction_log.specs.Log.{operation_meant};
 ghost use Rattle.terms.specs.Terms.{terms_meant, query_meant};
 ghost use Rattle.book.specs.Books.{expressions_at, action_meant};
 ghost use Rattle.room.specs.Room.{transition_in};
@@ -17,7 +17,7 @@ ghost use Rattle.action.specs.Fit.{FitOperation, FitAction};
 
 use book::Action;
 use changes::{Reason, Step};
-use log::Operation;
+use transaction_log::Operation;
 use rows::Looked;
 use slots::Found;
 use terms::{Query, Terms};

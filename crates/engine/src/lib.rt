@@ -8,7 +8,7 @@ ghost use Rattle.engine.specs.Answers.{Checks, Gives, Runs};
 
 use book::BookRead;
 use image::ImageRead;
-use log::LogRead;
+use transaction_log::LogRead;
 use processing::Outcome;
 use transaction::ReadOff;
 
@@ -73,7 +73,7 @@ pub fn run(image: &[u8], book: &[u8], log: &[u8], out: &mut [u8], room: &mut [u8
                 if !order.found {
                     return Answer::Refused(Refusal::Cycle);
                 }
-                match log::judge(log) {
+                match transaction_log::judge(log) {
                     LogRead::Is { count: operations } => {
                         let a = ReadOff {
                             next,

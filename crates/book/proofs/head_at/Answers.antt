@@ -34,9 +34,9 @@ pub returns-then-triggers-lt1 : goal.returns-then-triggers-lt1
 unfolding head_then head_end rule
 returns-then-triggers-lt1 c =
     let wrong : byte_within 1 7 c.args.s.now (c.args.at + 1 + 1) ≡ bad =
-    ⊎_elim (λ low. looked-below c.byte-triggers.ensures 1 7 low.taken)
-    (λ high. looked-above c.byte-triggers.ensures 1 7 (ltb-true 7 c.byte-triggers.result high.1.taken))
-    c.then-triggers-lt1.branch
+    ⊎_elim (λ low. looked-below c.byte-triggers.ensures 1 7 low)
+    (λ high. looked-above c.byte-triggers.ensures 1 7 high.1)
+    c.then-triggers-lt1.either
     in record {
       result_value = rw (looked-within c.byte-active.ensures 0 1 (search rules) c.if-active-gt1.false)
           (rw (table-looked c.byte-table.ensures c.if-table-gt3.false, wrong));
@@ -48,7 +48,7 @@ unfolding head_then head_end rule
 returns-then-not-columns_fit c = record {
       result_value = rw (looked-within c.byte-active.ensures 0 1 (search rules) c.if-active-gt1.false)
       (rw (table-looked c.byte-table.ensures c.if-table-gt3.false)
-      (rw (looked-within c.byte-triggers.ensures 1 7 c.if-triggers-lt1.false (ltb-false 7 c.byte-triggers.result c.if-triggers-gt7.false))
+      (rw (looked-within c.byte-triggers.ensures 1 7 c.if-triggers-lt1.false c.if-triggers-gt7.false)
       (rw (columns-refused c.byte-triggers.result _ c.columns_fit.ensures c.byte-columns.ensures c.if-not-columns_fit.true))));
       result_in_bounds = omega arith;
     }
@@ -60,7 +60,7 @@ returns-then-not-has c =
     let gone = stands-not c.args.s.now (c.args.at + 1 + 1 + 1 + 1 + 2) c.has.ensures c.if-not-has.true in record {
       result_value = rw (looked-within c.byte-active.ensures 0 1 (search rules) c.if-active-gt1.false)
           (rw (table-looked c.byte-table.ensures c.if-table-gt3.false)
-          (rw (looked-within c.byte-triggers.ensures 1 7 c.if-triggers-lt1.false (ltb-false 7 c.byte-triggers.result c.if-triggers-gt7.false))
+          (rw (looked-within c.byte-triggers.ensures 1 7 c.if-triggers-lt1.false c.if-triggers-gt7.false)
           (rw (columns-admitted c.byte-triggers.result _ c.columns_fit.ensures c.byte-columns.ensures c.if-not-columns_fit.false)
           (rw (number16-short c.args.s.now bytes (c.args.at + 1 + 1 + 1 + 1) gone)))));
       result_in_bounds = omega arith;
@@ -77,7 +77,7 @@ returns-then-not-names_rules c =
     let here = stands c.args.s.now (c.args.at + 1 + 1 + 1 + 1 + 2) c.has.ensures c.if-not-has.false in record {
       result_value = rw (looked-within c.byte-active.ensures 0 1 (search rules) c.if-active-gt1.false)
           (rw (table-looked c.byte-table.ensures c.if-table-gt3.false)
-          (rw (looked-within c.byte-triggers.ensures 1 7 c.if-triggers-lt1.false (ltb-false 7 c.byte-triggers.result c.if-triggers-gt7.false))
+          (rw (looked-within c.byte-triggers.ensures 1 7 c.if-triggers-lt1.false c.if-triggers-gt7.false)
           (rw (columns-admitted c.byte-triggers.result _ c.columns_fit.ensures c.byte-columns.ensures c.if-not-columns_fit.false)
           (rw (number16-read c.args.s.now bytes (c.args.at + 1 + 1 + 1 + 1) here, ← c.word16-precedes.ensures.0)
           (rw (failed c.names_rules.ensures c.if-not-names_rules.true))))));
@@ -91,7 +91,7 @@ returns c =
     let here = stands c.args.s.now (c.args.at + 1 + 1 + 1 + 1 + 2) c.has.ensures c.if-not-has.false in record {
       result_value = rw (looked-within c.byte-active.ensures 0 1 (search rules) c.if-active-gt1.false)
           (rw (table-looked c.byte-table.ensures c.if-table-gt3.false)
-          (rw (looked-within c.byte-triggers.ensures 1 7 c.if-triggers-lt1.false (ltb-false 7 c.byte-triggers.result c.if-triggers-gt7.false))
+          (rw (looked-within c.byte-triggers.ensures 1 7 c.if-triggers-lt1.false c.if-triggers-gt7.false)
           (rw (columns-admitted c.byte-triggers.result _ c.columns_fit.ensures c.byte-columns.ensures c.if-not-columns_fit.false)
           (rw (number16-read c.args.s.now bytes (c.args.at + 1 + 1 + 1 + 1) here, ← c.word16-precedes.ensures.0)
           (rw (passed c.names_rules.ensures c.if-not-names_rules.false))))));
