@@ -6,7 +6,7 @@ use Rattle.words.specs.Words.{sum_meant}
 use Rattle.terms.specs.Terms.{expression_or}
 use Rattle.working.proofs.OneRow.{storing-start, storing-done, storing-bad, storing-unset, storing-out, storing-set}
 use Rattle.working.proofs.OneRow.{changed-stands, changed-below, changed-within}
-use Rattle.working.proofs.work_out_row.Goals.{then-has_bit+in-Is+in-Is-2, else-has_bit}
+use Rattle.working.proofs.work_out_row.Goals.{then-has_bit+in-Is+in-Is-work_out, else-has_bit}
 use Rattle.working.proofs.work_out_row.Goals as goal
 
 pub loop-c-init : goal.loop-c-init
@@ -47,11 +47,11 @@ unfolding sum_meant expression_or
 loop-c-preserved c =
     let test = sym c.has_bit.ensures in
     elim c.if-has_bit.branch [
-      | then-has_bit+in-Is+in-Is-2 w ↦
+      | then-has_bit+in-Is+in-Is-work_out w ↦
           rw (w.room-is, w.here-is)
           (storing-set c.args.book.now c.args.mask c.loop-c.invariant c.loop-c-test.true (test ∙ w.if-has_bit.true)
           (sym w.expression_at.ensures ∙ ap expression_or w.in-Is.is) _
-          (sym (ap sum_meant w.in-Is-2.is) ∙ w.work_out.ensures) w.put_value.ensures)
+          (sym (ap sum_meant w.in-Is-work_out.is) ∙ w.work_out.ensures) w.put_value.ensures)
       | else-has_bit w ↦
           rw (w.room-is, w.here-is)
           (storing-unset c.args.book.now c.args.mask c.loop-c.invariant c.loop-c-test.true (test ∙ w.if-has_bit.false))
