@@ -1,6 +1,7 @@
 // What an operation of the log and an action of a rule do: all rows are chosen and all expressions worked
 // out before a row changes; one that fails changes no row.
 #![tactic(auto)]
+
 ghost use Rattle.std.specs.Prelude.{◌≡◌, [], ◌∷◌, ◌≤◌, length};
 ghost use Rattle.std.specs.Int.Count.{ones};
 ghost use Rattle.meaning.specs.Covers as Covers;

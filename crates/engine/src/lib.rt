@@ -1,6 +1,7 @@
 // The entry points. Each judges what it is given for itself and ends: none has a `requires`. A refused call
 // changes nothing that it was lent.
 #![tactic(auto)]
+
 ghost use Rattle.std.specs.Prelude.{◌≡◌, ◌≤◌, length, take};
 ghost use Rattle.meaning.specs.Base.{in_front_of};
 ghost use Rattle.engine.specs.Answers.{Checks, Gives, Runs};

@@ -1,5 +1,6 @@
 // The log: judged exactly, and its operations read one after another.
 #![tactic(auto)]
+
 ghost use Rattle.std.specs.Prelude.{◌≡◌};
 ghost use Rattle.meaning.specs.Reading.{many, read_all};
 ghost use Rattle.meaning.specs.ByteLayouts as ByteLayouts;

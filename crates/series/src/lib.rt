@@ -1,5 +1,6 @@
 // The operations of the log, and the actions of a rule, run in order; the first that ends the run ends them.
 #![tactic(auto)]
+
 ghost use Rattle.meaning.specs.ByteLayouts.{operation};
 ghost use Rattle.meaning.specs.Processing.{run_log, run_actions};
 ghost use Rattle.words.specs.Words.{readable};

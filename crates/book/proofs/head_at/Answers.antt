@@ -21,12 +21,11 @@ returns-then-active-gt1 c = (rw (looked-above c.byte-active.ensures 0 1 c.if-act
 
 pub returns-then-table-gt3 : goal.returns-then-table-gt3
 unfolding head_then head_end rule
-returns-then-table-gt3 c =
-    (
-      rw (looked-within c.byte-active.ensures 0 1 (search rules) c.if-active-gt1.false)
-          (rw (table-wrong c.byte-table.ensures c.if-table-gt3.true)),
-      omega arith,
-    )
+returns-then-table-gt3 c = (
+  rw (looked-within c.byte-active.ensures 0 1 (search rules) c.if-active-gt1.false)
+      (rw (table-wrong c.byte-table.ensures c.if-table-gt3.true)),
+  omega arith,
+)
 
 pub returns-then-triggers-lt1 : goal.returns-then-triggers-lt1
 unfolding head_then head_end rule
@@ -43,14 +42,13 @@ returns-then-triggers-lt1 c =
 
 pub returns-then-not-columns_fit : goal.returns-then-not-columns_fit
 unfolding head_then head_end rule
-returns-then-not-columns_fit c =
-    (
-      rw (looked-within c.byte-active.ensures 0 1 (search rules) c.if-active-gt1.false)
-          (rw (table-looked c.byte-table.ensures c.if-table-gt3.false)
-          (rw (looked-within c.byte-triggers.ensures 1 7 c.if-triggers-lt1.false (ltb-false 7 c.byte-triggers.result c.if-triggers-gt7.false))
-          (rw (columns-refused c.byte-triggers.result _ c.columns_fit.ensures c.byte-columns.ensures c.if-not-columns_fit.true)))),
-      omega arith,
-    )
+returns-then-not-columns_fit c = (
+  rw (looked-within c.byte-active.ensures 0 1 (search rules) c.if-active-gt1.false)
+      (rw (table-looked c.byte-table.ensures c.if-table-gt3.false)
+      (rw (looked-within c.byte-triggers.ensures 1 7 c.if-triggers-lt1.false (ltb-false 7 c.byte-triggers.result c.if-triggers-gt7.false))
+      (rw (columns-refused c.byte-triggers.result _ c.columns_fit.ensures c.byte-columns.ensures c.if-not-columns_fit.true)))),
+  omega arith,
+)
 
 pub returns-then-not-has : goal.returns-then-not-has
 unfolding head_then head_end rule
@@ -73,8 +71,7 @@ pub returns-then-not-names_rules : goal.returns-then-not-names_rules
 unfolding head_then head_end rule
 returns-then-not-names_rules c =
     let bytes : Bytes c.args.s.now = λ i. (c.type_inv.s i).fits in
-    let here = stands c.args.s.now (c.args.at + 1 + 1 + 1 + 1 + 2) c.has.ensures c.if-not-has.false in
-    (
+    let here = stands c.args.s.now (c.args.at + 1 + 1 + 1 + 1 + 2) c.has.ensures c.if-not-has.false in (
       rw (looked-within c.byte-active.ensures 0 1 (search rules) c.if-active-gt1.false)
           (rw (table-looked c.byte-table.ensures c.if-table-gt3.false)
           (rw (looked-within c.byte-triggers.ensures 1 7 c.if-triggers-lt1.false (ltb-false 7 c.byte-triggers.result c.if-triggers-gt7.false))
@@ -88,8 +85,7 @@ pub returns : goal.returns
 unfolding head_then head_end rule_of rule
 returns c =
     let bytes : Bytes c.args.s.now = λ i. (c.type_inv.s i).fits in
-    let here = stands c.args.s.now (c.args.at + 1 + 1 + 1 + 1 + 2) c.has.ensures c.if-not-has.false in
-    (
+    let here = stands c.args.s.now (c.args.at + 1 + 1 + 1 + 1 + 2) c.has.ensures c.if-not-has.false in (
       rw (looked-within c.byte-active.ensures 0 1 (search rules) c.if-active-gt1.false)
           (rw (table-looked c.byte-table.ensures c.if-table-gt3.false)
           (rw (looked-within c.byte-triggers.ensures 1 7 c.if-triggers-lt1.false (ltb-false 7 c.byte-triggers.result c.if-triggers-gt7.false))

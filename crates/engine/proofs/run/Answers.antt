@@ -35,8 +35,7 @@ returns-then-not-order c =
 pub transact-e-requires : goal.transact-e-requires
 transact-e-requires c =
     let i = image-told c.args.image.now c.judge.ensures.told c.in-Is.is in
-    let b = told c.args.book.now c.judge-in-Is.ensures.told c.in-Is-judge.is in
-    (
+    let b = told c.args.book.now c.judge-in-Is.ensures.told c.in-Is-judge.is in (
       accepts _ _ c.args.log.now _ _ i _ _ c.plan_of-plan.result b c.plan_of-plan.ensures c.if-not-order.false _,
       (c.if-out-lt-OUTPUT.false, c.if-room-lt-ROOM.false),
     )

@@ -20,9 +20,9 @@ low32-requires c = omega arith
 
 pub put_head-requires : goal.put_head-requires
 put_head-requires c = record {
-      in_bounds = omega arith;
-      count_bound = omega arith;
-    }
+  in_bounds = omega arith;
+  count_bound = omega arith;
+}
 
 pub loop-left-init : goal.loop-left-init
 loop-left-init c =
@@ -46,9 +46,9 @@ live_row-requires c =
 
 pub put_row-requires : goal.put_row-requires
 put_row-requires c = record {
-      in_bounds = simp (length-take, length-drop) (omega (arith, writing-length c.loop-left.invariant));
-      table_bound = c.live_row.ensures.table;
-    }
+  in_bounds = simp (length-take, length-drop) (omega (arith, writing-length c.loop-left.invariant));
+  table_bound = c.live_row.ensures.table;
+}
 
 pub loop-left-preserved : goal.loop-left-preserved
 loop-left-preserved c =

@@ -14,11 +14,10 @@ process-e-requires c =
     }
 
 pub hand_back-requires : goal.hand_back-requires
-hand_back-requires c =
-    (
-      live-stands c.requires.accepts c.load.ensures (λ k. (c.type_inv.room k).fits) c.process-e.ensures,
-      (c.requires.in_bounds, image-length _ _ c.requires.accepts.rows.image),
-    )
+hand_back-requires c = (
+  live-stands c.requires.accepts c.load.ensures (λ k. (c.type_inv.room k).fits) c.process-e.ensures,
+  (c.requires.in_bounds, image-length _ _ c.requires.accepts.rows.image),
+)
 
 pub returns : goal.returns
 returns c =
