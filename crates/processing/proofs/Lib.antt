@@ -3,4 +3,3 @@ mod Looking
 mod Turns
 mod Going
 mod Logged
-mod Counting

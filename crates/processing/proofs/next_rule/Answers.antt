@@ -17,4 +17,4 @@ first_triggered-requires c =
 
 pub returns : goal.returns
 returns c =
-    looks (λ i. (c.slice_known-2-1.given i).fits) c.settle.ensures c.first_triggered.ensures
+    looks (λ i. (c.type_inv.room i).fits) c.settle.ensures c.first_triggered.ensures

@@ -34,13 +34,12 @@ spent-b-requires c =
 
 pub consider-requires : goal.consider-requires
 consider-requires c =
-    (
-      going-ready c.loop-b.invariant c.next_rule.ensures,
-      (
-        (c.requires.count_bound, going-below c.loop-b.invariant c.next_rule.ensures c.in-Rule.is c.requires.numbers),
-        (c.requires.planned, going-active c.loop-b.invariant c.next_rule.ensures c.in-Rule.is c.requires.planned c.requires.numbers),
-      ),
-    )
+    record {
+      ready = going-ready c.loop-b.invariant c.next_rule.ensures;
+      count_bound = c.requires.count_bound;
+      planned = c.requires.planned;
+      k_bound = going-below c.loop-b.invariant c.next_rule.ensures c.in-Rule.is c.requires.numbers;
+    }
 
 pub loop-b-smaller : goal.loop-b-smaller
 loop-b-smaller c =
