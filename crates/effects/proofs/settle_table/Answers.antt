@@ -2,11 +2,10 @@
 -- all of it; at the first change both are woven from there on.
 use Prim.Native.Nat.{◌-◌}
 use native.Mathlib.Omega.{arith}
-use borrow.Author.Tests.{not-false}
 use Rattle.slots.specs.Slots.{table_bytes}
 use Rattle.effects.proofs.SpareTable.{go-start, go-ready, go-reads, go-other, go-low, go_on, go-weaves, go-woven, go-done}
 use Rattle.effects.proofs.settle_table.Goals as goal
-use Rattle.effects.proofs.settle_table.Goals.{then-op-table, else-op-table}
+use Rattle.effects.proofs.settle_table.Goals.{then-op-table+else-not-stays, else-op-table}
 
 pub size-m-requires : goal.size-m-requires
 unfolding table_bytes
@@ -51,8 +50,10 @@ pub loop-j-preserved : goal.loop-j-preserved
 loop-j-preserved c =
     let reads = go-reads c.loop-j.invariant c.size-m.ensures c.loop-j-test.true in
     elim c.if-op-table.branch [
-      then-op-table w ↦ let h = w in ?
-    | else-op-table w ↦ let h = w in ?
+      then-op-table+else-not-stays w ↦
+          rw w.i-is
+          (go_on c.loop-j.invariant reads c.slot_at-op.ensures w.place_from-i.ensures w.if-op-table.true (w.stays.ensures w.if-not-stays.false))
+    | else-op-table w ↦ rw w.i-is (go-other c.loop-j.invariant reads c.slot_at-op.ensures w.if-op-table.false)
     ]
 
 pub returns : goal.returns
