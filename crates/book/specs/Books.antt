@@ -9,7 +9,6 @@ use Rattle.meaning.specs.ByteLayouts as ByteLayouts
 use Rattle.meaning.specs.EntryPoints.{first_rule}
 use Rattle.words.specs.Words.{readable}
 use Rattle.fields.specs.Fields.{values_at}
-use Rattle.terms.specs.declared.Query.{Query}
 use Rattle.terms.specs.Terms.{terms_meant, query_meant}
 use Rattle.book.specs.declared.Action.{Action}
 use Rattle.book.specs.declared.Action.TheVariants as action

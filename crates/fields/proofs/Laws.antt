@@ -1,7 +1,7 @@
 -- Laws of what image, book and log share, for any fields in a frame: what the frame admits is read from place 5 on and must end where the
 -- slice ends, what it refuses is bad. And n values are read where their 4 n bytes stand in the slice.
 use mathlib.Core.Path.{◌≡◌, sym, ap, ◌∙◌}
-use mathlib.Core.Bool.{Bool, true, false, not}
+use mathlib.Core.Bool.{Bool, true, false}
 use mathlib.Core.List.{List}
 use mathlib.Core.Option.{none, some}
 use Prim.Native.Nat.{ℕ, zero, suc, ◌+◌, ◌-◌, ◌*◌, ◌≤◌, ◌<◌}

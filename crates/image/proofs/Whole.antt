@@ -4,7 +4,7 @@ use mathlib.Core.Path.{◌≡◌, refl, sym, ap, ◌∙◌}
 use mathlib.Core.Bool.{true, false}
 use mathlib.Core.List.{List}
 use mathlib.Core.Option.{none, some}
-use Prim.Native.Nat.{ℕ, ◌+◌, ◌-◌, ◌*◌, ◌≤◌, ◌<◌}
+use Prim.Native.Nat.{ℕ, ◌+◌, ◌*◌, ◌≤◌, ◌<◌}
 use native.Mathlib.Omega.{arith}
 use borrow.Author.Tests.{le-leb, lt-leb, leb-true, ltb-true, ltb-false}
 use lib.Dec.{leb, ltb}
@@ -24,7 +24,6 @@ use Rattle.fields.specs.Fields.{well_framed}
 use Rattle.fields.proofs.Laws.{frame_refused, fields-refused, length-refused, fields-taken}
 use Rattle.image.specs.Images.{image_or, first_row, WellFormed, rise_in}
 use Rattle.image.specs.declared.ImageRead.TheVariants.{Is}
-use Rattle.image.specs.declared.Row.{Row}
 use Rattle.image.proofs.Laws.{row-size}
 
 -- ---- n rows

@@ -1,11 +1,11 @@
 -- Laws for decoders, by what `words::byte` and `words::has` answered. A parser of one byte gives the byte that was looked at, or is bad,
 -- by whether the range admits it; a row source is read where the triggers admit it; a list that ends somewhere was read.
 use mathlib.Core.Path.{◌≡◌, refl, sym, ◌∙◌}
-use mathlib.Core.Bool.{Bool, true, false, not, ◌||◌}
+use mathlib.Core.Bool.{Bool, true, false, ◌||◌}
 use mathlib.Core.List.{List}
 use Prim.Native.Nat.{ℕ, ◌+◌, ◌≤◌, ◌<◌}
 use native.Mathlib.Omega.{arith}
-use borrow.Author.Tests.{ltb-true, ltb-false, le-ltb, leb-true, leb-false, eqb-true, ne_eqb, not-true, not-false}
+use borrow.Author.Tests.{ltb-true, ltb-false, le-ltb, leb-true, leb-false, eqb-true, ne_eqb}
 use lib.Dec.{eqb, leb, ltb}
 use Rattle.meaning.specs.Base.{if◌then◌else◌, bit}
 use Rattle.meaning.specs.Reading.{bad, got, Parser, ◌>>=◌, pure, malformed, byte_within, byte}

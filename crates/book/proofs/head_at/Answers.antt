@@ -1,6 +1,5 @@
 -- `book::head_at` meets its contract: each of its tests decides the rule at this place as the layout does, field by field.
 use borrow.Author.Rules.{rules}
-use borrow.Author.Tests.{ltb-true, ltb-false}
 use mathlib.Core.Logic.{⊎_elim}
 use mathlib.Core.Path.{◌≡◌}
 use native.Mathlib.Omega.{arith}
@@ -18,17 +17,17 @@ use Rattle.book.proofs.head_at.Goals as goal
 pub returns-then-active-gt1 : goal.returns-then-active-gt1
 unfolding head_then head_end rule
 returns-then-active-gt1 c = record {
-      result_value = rw (looked-above c.byte-active.ensures 0 1 c.if-active-gt1.true);
-      result_in_bounds = omega arith;
-    }
+  result_value = rw (looked-above c.byte-active.ensures 0 1 c.if-active-gt1.true);
+  result_in_bounds = omega arith;
+}
 
 pub returns-then-table-gt3 : goal.returns-then-table-gt3
 unfolding head_then head_end rule
 returns-then-table-gt3 c = record {
-      result_value = rw (looked-within c.byte-active.ensures 0 1 (search rules) c.if-active-gt1.false)
+  result_value = rw (looked-within c.byte-active.ensures 0 1 (search rules) c.if-active-gt1.false)
       (rw (table-wrong c.byte-table.ensures c.if-table-gt3.true));
-      result_in_bounds = omega arith;
-    }
+  result_in_bounds = omega arith;
+}
 
 pub returns-then-triggers-lt1 : goal.returns-then-triggers-lt1
 unfolding head_then head_end rule
@@ -46,12 +45,12 @@ returns-then-triggers-lt1 c =
 pub returns-then-not-columns_fit : goal.returns-then-not-columns_fit
 unfolding head_then head_end rule
 returns-then-not-columns_fit c = record {
-      result_value = rw (looked-within c.byte-active.ensures 0 1 (search rules) c.if-active-gt1.false)
+  result_value = rw (looked-within c.byte-active.ensures 0 1 (search rules) c.if-active-gt1.false)
       (rw (table-looked c.byte-table.ensures c.if-table-gt3.false)
       (rw (looked-within c.byte-triggers.ensures 1 7 c.if-triggers-lt1.false c.if-triggers-gt7.false)
       (rw (columns-refused c.byte-triggers.result _ c.columns_fit.ensures c.byte-columns.ensures c.if-not-columns_fit.true))));
-      result_in_bounds = omega arith;
-    }
+  result_in_bounds = omega arith;
+}
 
 pub returns-then-not-has : goal.returns-then-not-has
 unfolding head_then head_end rule

@@ -2,7 +2,7 @@
 -- the last handle. The measure is the number of rows left. In each answer `top` is the place where a turn begins, and `p1`, `p2`, .. are
 -- those behind the tests of the turn.
 use borrow.Author.Rules.{rules}
-use borrow.Author.Tests.{leb-true, leb-false, not-true, not-false}
+use borrow.Author.Tests.{leb-true, leb-false}
 use lib.ListN.{length}
 use mathlib.Core.Path.{refl, ◌∙◌, sym}
 use native.Mathlib.Omega.{arith}

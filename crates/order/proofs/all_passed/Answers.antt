@@ -1,7 +1,6 @@
 -- `order::all_passed` meets its contract. The loop's invariant: the answer is that of the rules still to be tested.
 use mathlib.Core.Path.{sym, ◌∙◌}
 use native.Mathlib.Omega.{arith}
-use borrow.Author.Tests.{not-true, not-false}
 use Rattle.order.specs.Order.{all_passed}
 use Rattle.order.proofs.Counted.{all_left, all-go-on, all-fail, none-to-go}
 use Rattle.order.proofs.all_passed.Goals as goal

@@ -1,6 +1,5 @@
 -- `order::predecessors` meets its contract. The loop's invariant: the masks of the rules before j are in place.
 use mathlib.Core.Path.{refl}
-use Prim.Native.Nat.{◌-◌}
 use native.Mathlib.Omega.{arith}
 use Rattle.order.proofs.Masks.{one-mask-more, all-masks}
 use Rattle.order.proofs.predecessors.Goals as goal

@@ -1,6 +1,5 @@
 -- `order::total_order` meets its contract. The loop's invariant is `Building`: the rules so far are those that the definition
 -- has taken.
-use borrow.Author.Rules.{rules}
 use Rattle.order.proofs.Building.{Building}
 use Rattle.order.proofs.total_order.Given as goal
 

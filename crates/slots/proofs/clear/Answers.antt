@@ -1,5 +1,4 @@
 -- `slots::clear` meets its contract: before each turn the first `i` bytes are zero and the others as they were.
-use Prim.Native.Nat.{◌-◌}
 use Rattle.slots.proofs.Loops.{clear-start, clear_step, clear-done}
 use Rattle.slots.proofs.clear.Goals as goal
 

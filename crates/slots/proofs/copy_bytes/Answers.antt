@@ -1,5 +1,4 @@
 -- `slots::copy_bytes` meets its contract: before each turn the first `j` bytes are copied, and no other byte changed.
-use Prim.Native.Nat.{◌-◌}
 use native.Mathlib.Omega.{arith}
 use Rattle.slots.proofs.Loops.{copy_start, copy_step, copy_done}
 use Rattle.slots.proofs.copy_bytes.Goals as goal

@@ -1,5 +1,4 @@
 -- `slots::move_down` meets its contract: before each turn the first `j` bytes are moved, and no other.
-use Prim.Native.Nat.{◌-◌}
 use native.Mathlib.Omega.{arith}
 use Rattle.slots.proofs.Loops.{lower-start, lower-step, lower-done}
 use Rattle.slots.proofs.move_down.Goals as goal

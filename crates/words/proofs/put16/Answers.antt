@@ -1,7 +1,5 @@
 -- `words::put16` meets its contract: a store keeps the length, and the two stores are those of the two bytes.
-use lib.ListN.{length-set}
 use native.Mathlib.Numerals.{add-one}
-use native.Mathlib.Omega.{arith}
 use Rattle.meaning.specs.ByteLayouts.{bytes2}
 use Rattle.words.proofs.put16.Goals as goal
 

@@ -1,7 +1,5 @@
 -- `words::put32` meets its contract: a store keeps the length, and the four stores are those of the four bytes.
-use lib.ListN.{length-set}
 use native.Mathlib.Numerals.{add-one, add-two, add-three}
-use native.Mathlib.Omega.{arith}
 use Rattle.meaning.specs.ByteLayouts.{bytes4}
 use Rattle.words.proofs.put32.Goals as goal
 

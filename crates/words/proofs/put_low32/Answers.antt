@@ -1,7 +1,5 @@
 -- `words::put_low32` meets its contract: a store keeps the length, and the four stores are those of the four bytes.
-use lib.ListN.{length-set}
 use native.Mathlib.Numerals.{add-one, add-two, add-three}
-use native.Mathlib.Omega.{arith}
 use Rattle.words.specs.Words.{low_bytes4}
 use Rattle.words.proofs.put_low32.Goals as goal
 
