@@ -52,6 +52,7 @@ module _ {start : Image} {s : State} {ys tables : List ℕ} (reached : Reached s
   went-after : {r : Result} → MadeOf s.image r → Follows ys tables s r Went → After start s ys tables r
   went-after (went_made {os = os} g) (goes_on p) =
       record { new = os; is = refl; made = g; reached = reached-all reached g; represents = p }
+  went-after (ends_made {o = o} {os = os} _ _) x7 = elim x7 [ ]
 
 module _ {xs ys : List ℕ} {f : Image → Result} (makes : Makes f) (acts : Acts xs ys f Went) where
   pub acts-after : {tables : List ℕ} {start : Image} {s : State} → Reached start s → Represents xs tables s → After start s ys tables (f s.image)

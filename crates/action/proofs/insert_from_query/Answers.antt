@@ -1,6 +1,6 @@
 -- `action::insert_from_query` meets its contract: rows are chosen and worked out aside; where a sum leaves 32 bits nothing changed that the
 -- room represents, else the values worked out are inserted.
-use borrow.Author.Tests.{not-true, not-false}
+use borrow.Author.Rules.{rules}
 use native.Mathlib.Omega.{arith}
 use lib.Count.{ones}
 use Rattle.book.specs.Books.{expressions_at}
@@ -29,7 +29,7 @@ pub insert_all-requires : goal.insert_all-requires
 insert_all-requires c =
     record {
       running = running-aside (prepared c.requires.running.represents.laid c.choose.ensures c.work_out_all.ensures).aside
-          (λ k. (c.type_inv.room k).fits) c.requires.running;
+          (search rules) c.requires.running;
       table_bound = c.requires.table_bound;
     }
 
@@ -39,4 +39,4 @@ returns c =
     query-inserts c.args.table c.requires.running.represents.laid c.requires.expressions_len
     (prepared c.requires.running.represents.laid c.choose.ensures
     (rw c.if-not-work_out_all.false at c.work_out_all.ensures))
-    (λ k. (c.type_inv.room k).fits) c.insert_all.ensures
+    (search rules) c.insert_all.ensures

@@ -1,4 +1,5 @@
 -- `action::insert_values` meets its contract: the values are worked out aside as one row, which is then inserted.
+use borrow.Author.Rules.{rules}
 use Rattle.meaning.specs.ByteLayouts.{value}
 use Rattle.fields.specs.Fields.{values_at}
 use Rattle.action.proofs.Aside.{aside-worked, running-aside}
@@ -18,11 +19,11 @@ pub insert_all-requires : goal.insert_all-requires
 insert_all-requires c =
     record {
       running = running-aside (aside-worked c.requires.running.represents.laid c.work_out_values.ensures.works)
-          (λ k. (c.type_inv.room k).fits) c.requires.running;
+          (search rules) c.requires.running;
       table_bound = c.requires.table_bound;
     }
 
 pub returns : goal.returns
 returns c =
     acts-insert c.args.table c.requires.running.represents.laid c.work_out_values.ensures
-    (λ k. (c.type_inv.room k).fits) c.insert_all.ensures
+    (search rules) c.insert_all.ensures

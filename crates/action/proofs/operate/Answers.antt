@@ -7,7 +7,7 @@ use Rattle.action.proofs.operate.Goals as goal
 pub insert_values-requires : goal.insert_values-requires
 unfolding operation_meant
 insert_values-requires c =
-    let fit = insert-fits (rw c.in-Insert.is c c.requires.fit_operation) in
+    let fit = insert-fits (rw c.in-Insert.is at c.requires.fit_operation) in
     record {
       running = c.requires.running;
       table_bound = fit.0;
@@ -20,7 +20,7 @@ delete_one-requires c = c.requires.running
 pub update_one-requires : goal.update_one-requires
 unfolding operation_meant
 update_one-requires c =
-    let fit = update-fits (rw c.in-Update.is c c.requires.fit_operation) in
+    let fit = update-fits (rw c.in-Update.is at c.requires.fit_operation) in
     record {
       running = c.requires.running;
       mask_bound = fit.0;

@@ -7,7 +7,7 @@ use Rattle.action.proofs.perform.Goals as goal
 pub insert_values-requires : goal.insert_values-requires
 unfolding action_meant
 insert_values-requires c =
-    let fit = insert_row-fits (rw c.in-Insert.is c c.requires.fit_action) in
+    let fit = insert_row-fits (rw c.in-Insert.is at c.requires.fit_action) in
     record {
       running = c.requires.running;
       table_bound = fit.0;
@@ -17,7 +17,7 @@ insert_values-requires c =
 pub insert_from_query-requires : goal.insert_from_query-requires
 unfolding action_meant
 insert_from_query-requires c =
-    let fit = insert_from_query-fits (rw c.in-InsertFromQuery.is c c.requires.fit_action) in
+    let fit = insert_from_query-fits (rw c.in-InsertFromQuery.is at c.requires.fit_action) in
     record {
       running = c.requires.running;
       table_bound = fit.0;
@@ -29,13 +29,13 @@ unfolding action_meant
 delete_rows-requires c =
     record {
       running = c.requires.running;
-      table_bound = delete_rows-fits (rw c.in-Delete.is c c.requires.fit_action);
+      table_bound = delete_rows-fits (rw c.in-Delete.is at c.requires.fit_action);
     }
 
 pub update_rows-requires : goal.update_rows-requires
 unfolding action_meant
 update_rows-requires c =
-    let fit = update_rows-fits (rw c.in-Update.is c c.requires.fit_action) in
+    let fit = update_rows-fits (rw c.in-Update.is at c.requires.fit_action) in
     record {
       running = c.requires.running;
       table_bound = fit.0;

@@ -1,5 +1,6 @@
 -- `action::update_one` meets its contract: the row that is found, with the values, takes the place of the old one; where none is found
 -- nothing changed.
+use native.Mathlib.Omega.{arith}
 use lib.Count.{ones}
 use mathlib.Core.Path.{sym, ◌∙◌}
 use Rattle.meaning.specs.ByteLayouts.{value}
@@ -38,36 +39,40 @@ with_values-new-requires c =
 
 pub update_row-requires : goal.update_row-requires
 update_row-requires c =
-    (
-      c.requires.running.represents.laid,
-      (
-        live-sorted c.requires.running.reached c.requires.running.represents,
-        update-can c.requires.running c.args.handle (values_at c.args.log.now (ones c.args.mask) c.args.values) c.requires.mask_bound c.narrow.ensures
-            (sym c.find-found.ensures ∙ c.in-At.is)
-            (rw c.slot_at-old.ensures c c.with_values-new.ensures) (fits c),
-      ),
-    )
+    let fits : Fits c.with_values-new.result =
+        record {
+          handle = omega arith;
+          kind = omega arith;
+          mask = omega arith;
+          table = omega arith;
+          v0 = omega arith;
+          v1 = omega arith;
+          v2 = omega arith;
+          v3 = omega arith;
+        } in
+    record {
+      laid = c.requires.running.represents.laid;
+      sorted = live-sorted c.requires.running.reached c.requires.running.represents;
+      can_join =
+          update-can c.requires.running c.args.handle (values_at c.args.log.now (ones c.args.mask) c.args.values) c.requires.mask_bound c.narrow.ensures
+          (sym c.find-found.ensures ∙ c.in-At.is)
+          (rw c.slot_at-old.ensures at c.with_values-new.ensures) fits;
+    }
 
 pub returns : goal.returns
 returns c =
+    let fits : Fits c.with_values-new.result =
+        record {
+          handle = omega arith;
+          kind = omega arith;
+          mask = omega arith;
+          table = omega arith;
+          v0 = omega arith;
+          v1 = omega arith;
+          v2 = omega arith;
+          v3 = omega arith;
+        } in
     updated-one c.requires.running c.args.handle (values_at c.args.log.now (ones c.args.mask) c.args.values) c.requires.mask_bound c.narrow.ensures
     (sym c.find-found.ensures ∙ c.in-At.is)
-    (rw c.slot_at-old.ensures c c.with_values-new.ensures) (fits c)
+    (rw c.slot_at-old.ensures at c.with_values-new.ensures) fits
     c.update_row.result (λ k. (c.type_inv.room k).fits) c.update_row.ensures
-
--- ?? -- the fields of the row that takes the place of the old one fit, as owning it tells
--- ?? fits : (c : tie.After-with-values) → Fits c.with_values.result
--- ?? fits c =
--- ??     let own = c.with_values.type-inv.1.1 in
--- ??     let bytes = own.1 in
--- ??     let values = bytes.1.1.1 in
--- ??     record {
--- ??       handle = own.0.1;
--- ??       kind = bytes.0.1;
--- ??       mask = bytes.1.0.1;
--- ??       table = bytes.1.1.0.1;
--- ??       v0 = values.0.1;
--- ??       v1 = values.1.0.1;
--- ??       v2 = values.1.1.0.1;
--- ??       v3 = values.1.1.1.0.1;
--- ??     }

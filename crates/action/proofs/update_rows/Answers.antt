@@ -1,6 +1,6 @@
 -- `action::update_rows` meets its contract: rows are chosen and worked out aside; where a sum leaves 32 bits nothing changed that the room
 -- represents, else the rows worked out take the places of the chosen ones.
-use borrow.Author.Tests.{not-true, not-false}
+use borrow.Author.Rules.{rules}
 use Rattle.terms.specs.Terms.{terms_meant}
 use Rattle.book.specs.Books.{expressions_at}
 use Rattle.action.proofs.Aside.{aside-chosen, running-aside}
@@ -30,16 +30,13 @@ update_all-requires c =
     let made = table-chosen c.args.book.now c.args.triggers c.args.table c.args.terms c.requires.table_bound c.choose.ensures in
     let p =
     prepared c.requires.running.represents.laid made
-    (rw c.if-not-work_out_all.false at c.work_out_all.ensures) in (
-      running-aside p.aside (λ k. (c.type_inv.room k).fits) c.requires.running,
-      (
-        c.requires.mask_bound,
-        (
-          taken-rows c.requires.running p.aside c.args.table (terms_meant c.args.book.now c.args.triggers c.args.terms) p.rows,
-          update-ready p,
-        ),
-      ),
-    )
+    (rw c.if-not-work_out_all.false at c.work_out_all.ensures) in
+    record {
+      running = running-aside p.aside (search rules) c.requires.running;
+      mask_bound = c.requires.mask_bound;
+      taken = taken-rows c.requires.running p.aside c.args.table (terms_meant c.args.book.now c.args.triggers c.args.terms) p.rows;
+      rewritten = update-ready p;
+    }
 
 pub returns : goal.returns
 unfolding expressions_at
@@ -47,4 +44,4 @@ returns c =
     let made = table-chosen c.args.book.now c.args.triggers c.args.table c.args.terms c.requires.table_bound c.choose.ensures in
     query-updates c.args.table (terms_meant c.args.book.now c.args.triggers c.args.terms) c.requires.running.represents.laid
     (prepared c.requires.running.represents.laid made (rw c.if-not-work_out_all.false at c.work_out_all.ensures))
-    (λ k. (c.type_inv.room k).fits) c.update_all.ensures
+    (search rules) c.update_all.ensures

@@ -1,5 +1,6 @@
 -- `consider::consider` meets its contract: the rule is read where the plan says that it stands, its transition tables are drawn, and then
 -- its condition is asked and its actions run.
+use borrow.Author.Rules.{rules}
 use Prim.Native.Nat.{◌<◌}
 use native.Mathlib.Omega.{arith}
 use Rattle.room.proofs.Live.{live-sorted}
@@ -22,20 +23,20 @@ draw-requires c =
 
 pub run_actions-requires : goal.run_actions-requires
 run_actions-requires c =
-    running-drawn c.requires.ready c.draw.ensures (λ i. (c.slice_known-in-Is-1.given i).fits)
+    running-drawn c.requires.ready c.draw.ensures (search rules)
 
 pub returns-then-condition_holds : goal.returns-then-condition_holds
 returns-then-condition_holds c =
     let d =
     drawn c.requires.count_bound c.requires.planned c.requires.k_bound c.rule_at.ensures c.in-Is.is c.watch.ensures
-    c.draw.ensures (λ i. (c.slice_known-in-Is-1.given i).fits) in
+    c.draw.ensures (search rules) in
     considers-acts d c.condition_holds.ensures c.if-condition_holds.true c.run_actions.ensures
 
 pub returns-else-condition_holds : goal.returns-else-condition_holds
 returns-else-condition_holds c =
     let d =
     drawn c.requires.count_bound c.requires.planned c.requires.k_bound c.rule_at.ensures c.in-Is.is c.watch.ensures
-    c.draw.ensures (λ i. (c.slice_known-in-Is-1.given i).fits) in
+    c.draw.ensures (search rules) in
     considers-none d c.condition_holds.ensures c.if-condition_holds.false
 
 pub returns-in-Bad : goal.returns-in-Bad

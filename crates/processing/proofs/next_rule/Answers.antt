@@ -1,5 +1,6 @@
 -- `processing::next_rule` meets its contract: once what was done joined what waits, all is settled, and the rule that is found is the first
 -- triggered one.
+use borrow.Author.Rules.{rules}
 use Rattle.processing.proofs.Looking.{midway-settleable, looks}
 use Rattle.processing.proofs.next_rule.Goals as goal
 
@@ -17,4 +18,4 @@ first_triggered-requires c =
 
 pub returns : goal.returns
 returns c =
-    looks (λ i. (c.type_inv.room i).fits) c.settle.ensures c.first_triggered.ensures
+    looks (search rules) c.settle.ensures c.first_triggered.ensures

@@ -36,9 +36,9 @@ pub consider-requires : goal.consider-requires
 consider-requires c =
     record {
       ready = going-ready c.loop-b.invariant c.next_rule.ensures;
-      count_bound = c.requires.count_bound;
+      count_bound = (c.requires.count_bound, going-below c.loop-b.invariant c.next_rule.ensures c.in-Rule.is c.requires.numbers);
       planned = c.requires.planned;
-      k_bound = going-below c.loop-b.invariant c.next_rule.ensures c.in-Rule.is c.requires.numbers;
+      k_bound = going-active c.loop-b.invariant c.next_rule.ensures c.in-Rule.is c.requires.planned c.requires.numbers;
     }
 
 pub loop-b-smaller : goal.loop-b-smaller
