@@ -17,10 +17,10 @@ ghost use Rattle.action.specs.Fit.{FitOperation, FitAction};
 
 use book::Action;
 use changes::{Reason, Step};
-use transaction_log::Operation;
 use rows::Looked;
 use slots::Found;
 use terms::{Query, Terms};
+use transaction_log::Operation;
 
 // Inserts one row of values that stand in the log or the book.
 fn insert_values(room: &mut [u8], s: &[u8], table: usize, values: usize) -> Step

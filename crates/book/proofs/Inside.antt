@@ -1,5 +1,6 @@
 -- What is read of a slice stands in it: a layout ends no earlier than it begins, and inside the slice. It is so of one byte, and of what
 -- is read on from there; so it is of every layout of a rule.
+use Rattle.std.specs.Prelude.{if◌then◌else◌}
 use mathlib.Core.Path.{◌≡◌, sym, ap, ◌∙◌}
 use mathlib.Core.Bool.{Bool, true, false, ◌&&◌}
 use mathlib.Core.List.{List}
@@ -9,7 +10,7 @@ use borrow.Author.Tests.{leb-true, leb-false}
 use lib.Count.{ones}
 use lib.Dec.{eqb, leb, ltb}
 use lib.ListN.{length}
-use Rattle.meaning.specs.Base.{if◌then◌else◌, bit}
+use Rattle.meaning.specs.Base.{bit}
 use Rattle.meaning.specs.Reading.{Read, bad, got, Parser, on_from, byte_at, byte_within, byte, number16, number32, many}
 use Rattle.meaning.specs.Covers as Covers
 use Rattle.meaning.specs.ByteLayouts as ByteLayouts

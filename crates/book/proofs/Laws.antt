@@ -1,6 +1,7 @@
 -- Laws for the decoders of actions and rules, by what `words::byte` answered: a table is a byte up to 3, and the columns of a rule are what
 -- its triggers admit. A mask of which nothing is left when n bits are shifted out is below 2 ^ n. A rule that is read has the head that is
 -- read at its place.
+use Rattle.std.specs.Prelude.{if◌then◌else◌}
 use mathlib.Core.Path.{◌≡◌, sym, ◌∙◌}
 use mathlib.Core.Bool.{Bool, true, false}
 use mathlib.Core.List.{List}
@@ -11,7 +12,7 @@ use native.Mathlib.Omega.{arith}
 use borrow.Author.Tests.{ltb-true, ltb-false, le-leb, lt-leb, eqb-true, eqb-false, eq-eqb, ne_eqb}
 use lib.Dec.{eqb, leb, ltb}
 use lib.ListN.{length}
-use Rattle.meaning.specs.Base.{if◌then◌else◌, bit, within}
+use Rattle.meaning.specs.Base.{bit, within}
 use Rattle.meaning.specs.Reading.{bad, got, byte_within, many, read_all}
 use Rattle.meaning.specs.ByteLayouts.{table, mask, columns, rule, book}
 use Rattle.words.specs.Words.{Bytes, Peeked, word16_at, end_of, readable}

@@ -1,8 +1,8 @@
 -- What the decoders of actions, rules and books answer.
-use Rattle.std.specs.Prelude.{◌≡◌, Bool, List, [], ℕ, ◌+◌, ◌≤◌, eqb, length}
+use Rattle.std.specs.Prelude.{◌≡◌, Bool, List, [], ℕ, ◌+◌, ◌≤◌, eqb, length, if◌then◌else◌}
 use Rattle.std.proofs.Math.Option.{Option, none, some}
 use Rattle.std.specs.Int.Count.{ones}
-use Rattle.meaning.specs.Base.{if◌then◌else◌, bit, within}
+use Rattle.meaning.specs.Base.{bit, within}
 use Rattle.meaning.specs.Reading.{Read, bad, got, on_from, many, read_all}
 use Rattle.meaning.specs.Covers as Covers
 use Rattle.meaning.specs.ByteLayouts as ByteLayouts

@@ -1,8 +1,7 @@
 // The book: judged exactly, its rules and their actions decoded where they stand.
 #![tactic(auto)]
 
-ghost use Rattle.std.specs.Prelude.{◌≡◌, [], ◌^◌, ◌≤◌, ltb, length};
-ghost use Rattle.meaning.specs.Base.{if◌then◌else◌};
+ghost use Rattle.std.specs.Prelude.{◌≡◌, [], ◌^◌, ◌≤◌, ltb, length, if◌then◌else◌};
 ghost use Rattle.meaning.specs.Reading.{many, read_all};
 ghost use Rattle.meaning.specs.ByteLayouts as ByteLayouts;
 ghost use Rattle.meaning.specs.ByteLayouts.{rule};

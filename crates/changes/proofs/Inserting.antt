@@ -1,4 +1,5 @@
 -- The loop that inserts: where there is space for all rows worked out, the i-th is inserted with the i-th handle from the next one on.
+use Rattle.std.specs.Prelude.{if◌then◌else◌}
 use mathlib.Core.Path.{◌≡◌, refl, sym, ap, ◌∙◌}
 use mathlib.Core.Bool.{Bool, true, false}
 use mathlib.Core.List.{List, [], ◌∷◌, map}
@@ -9,7 +10,6 @@ use lib.Dec.{ltb}
 use lib.ListN.{length, get_or, take, length-map, length-append}
 use lib.Seq.{take_all}
 use borrow.Author.Tests.{ltb-false}
-use Rattle.meaning.specs.Base.{if◌then◌else◌}
 use Rattle.meaning.specs.Covers.{most_rows, last_handle, Image, full, handles_used_up}
 use Rattle.meaning.specs.RowOperations.{RowOperation, inserts, deletes}
 use Rattle.meaning.specs.Processing.{State}

@@ -1,5 +1,6 @@
 -- A consideration of a rule of a plan: the rule that is read is the rule that is listed; its transition tables are those of what waits for
 -- it; and so its condition is asked, and its actions run, on what the specification says.
+use Rattle.std.specs.Prelude.{if◌then◌else◌}
 use mathlib.Core.Path.{◌≡◌, sym, ap, ◌∙◌}
 use mathlib.Core.Bool.{Bool, true, false}
 use mathlib.Core.List.{List, []}
@@ -7,7 +8,6 @@ use mathlib.Core.Option.{some}
 use Prim.Native.Nat.{ℕ, ◌≤◌, ◌<◌}
 use native.Mathlib.Omega.{arith}
 use lib.ListN.{length, get_or, get_elem?}
-use Rattle.meaning.specs.Base.{if◌then◌else◌}
 use Rattle.meaning.specs.Covers.{Image, Rule}
 use Rattle.meaning.specs.ByteLayouts as ByteLayouts
 use Rattle.meaning.specs.Processing.{State, waits, condition_holds, run_actions, consider_with, consider_rule, consider}

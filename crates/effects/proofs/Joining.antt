@@ -1,5 +1,6 @@
 -- How an operation joins a table by rising handle: before the place of its handle nothing changes; a slot of the same handle there is
 -- joined, and goes where nothing is left of it; else the operation is inserted.
+use Rattle.std.specs.Prelude.{if◌then◌else◌}
 use mathlib.Core.Path.{◌≡◌, refl, sym, ap, ◌∙◌}
 use mathlib.Core.Bool.{Bool, true, false}
 use mathlib.Core.List.{List, [], ◌∷◌, ◌++◌}
@@ -10,7 +11,6 @@ use lib.Bits.{bit_or}
 use lib.Dec.{eqb, ltb}
 use lib.ListN.{length, get_or, take, drop, set}
 use lib.Seq.{drop-cons, set_split, set-get_or}
-use Rattle.meaning.specs.Base.{if◌then◌else◌}
 use Rattle.meaning.specs.RowOperations.{join_kind, join_table}
 use Rattle.words.specs.Words.{low32_at}
 use Rattle.slots.specs.declared.Slot.{Slot}

@@ -1,5 +1,6 @@
 -- Whether a slot wakes a rule, by its kind; and the look at one slot after another: those that were passed wake it not, so what is left
 -- says whether any does.
+use Rattle.std.specs.Prelude.{if◌then◌else◌}
 use mathlib.Core.Path.{◌≡◌, refl, sym, ◌∙◌}
 use mathlib.Core.Bool.{Bool, true, false, not, and-true, and-false}
 use mathlib.Core.List.{List, ◌∷◌}
@@ -10,7 +11,7 @@ use lib.Bits.{bit_and}
 use lib.Dec.{eqb}
 use lib.ListN.{length, get_or, drop}
 use lib.Seq.{drop-cons}
-use Rattle.meaning.specs.Base.{if◌then◌else◌, any, bit}
+use Rattle.meaning.specs.Base.{any, bit}
 use Rattle.meaning.specs.RowOperations.{nothing, inserted, deleted, updated}
 use Rattle.meaning.specs.Processing.TransitionTables.{wakes, own_table, meets}
 use Rattle.slots.specs.declared.Slot.{Slot}

@@ -1,5 +1,6 @@
 -- A stretch by rising handle joins what waits from front to back. A slot below every handle of the stretch stays in front; one of the
 -- handle of its first effect is joined with that effect, and no later effect meets it; else the first effect comes before what is left.
+use Rattle.std.specs.Prelude.{if◌then◌else◌}
 use mathlib.Core.Path.{◌≡◌, refl, sym, ap, ◌∙◌, subst}
 use mathlib.Core.Bool.{Bool, true, false}
 use mathlib.Core.List.{List, [], ◌∷◌, ◌++◌, append_assoc}
@@ -10,7 +11,6 @@ use borrow.Author.Tests.{eq-eqb, ne_eqb, lt-ltb, le-ltb, ltb-true, ltb-false, eq
 use lib.Dec.{eqb, ltb}
 use lib.ListN.{length, get_or, take, drop, length-drop, take-append-drop}
 use lib.Seq.{slice, length-slice, drop-cons, drop-append-le, length-take-le, get_or-take, get_or-drop}
-use Rattle.meaning.specs.Base.{if◌then◌else◌}
 use Rattle.words.specs.Words.{low32_at}
 use Rattle.words.proofs.Laws.{split}
 use Rattle.slots.specs.declared.Slot.{Slot}

@@ -1,5 +1,6 @@
 -- What is said of a book, by the answers of its judge and of its plan: one that its judge refuses is malformed, one without an order has a
 -- cycle, and any other is accepted with its rules and their order.
+use Rattle.std.specs.Prelude.{if◌then◌else◌}
 use mathlib.Core.Path.{◌≡◌}
 use mathlib.Core.Bool.{true, false}
 use mathlib.Core.List.{List, []}
@@ -7,7 +8,7 @@ use Prim.Native.Nat.{ℕ, ◌<◌, ◌≤◌}
 use borrow.Author.Tests.{lt-ltb, le-ltb}
 use lib.Dec.{ltb}
 use lib.ListN.{length, take}
-use Rattle.meaning.specs.Base.{if◌then◌else◌, in_front_of}
+use Rattle.meaning.specs.Base.{in_front_of}
 use Rattle.meaning.specs.Reading.{many, read_all}
 use Rattle.meaning.specs.ByteLayouts as ByteLayouts
 use Rattle.meaning.specs.ByteLayouts.{rule}

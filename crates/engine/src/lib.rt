@@ -8,9 +8,9 @@ ghost use Rattle.engine.specs.Answers.{Checks, Gives, Runs};
 
 use book::BookRead;
 use image::ImageRead;
-use transaction_log::LogRead;
 use processing::Outcome;
 use transaction::ReadOff;
+use transaction_log::LogRead;
 
 // The refusals, in the order in which they are tried.
 #[derive(Clone, Copy)]

@@ -1,5 +1,6 @@
 -- Laws of what image, book and log share, for any fields in a frame: what the frame admits is read from place 5 on and must end where the
 -- slice ends, what it refuses is bad. And n values are read where their 4 n bytes stand in the slice.
+use Rattle.std.specs.Prelude.{if◌then◌else◌}
 use mathlib.Core.Path.{◌≡◌, sym, ap, ◌∙◌}
 use mathlib.Core.Bool.{Bool, true, false}
 use mathlib.Core.List.{List}
@@ -9,7 +10,6 @@ use native.Mathlib.Omega.{arith}
 use borrow.Author.Tests.{leb-true, leb-false, eqb-true, eqb-false, eq-eqb, ne_eqb, ltb-true, ltb-false}
 use lib.Dec.{leb, ltb, eqb}
 use lib.ListN.{length}
-use Rattle.meaning.specs.Base.{if◌then◌else◌}
 use Rattle.meaning.specs.Reading.{Read, bad, got, Parser, on_from, byte_at, byte_within, many, bytes_left, read_all}
 use Rattle.meaning.specs.ByteLayouts.{framed, value}
 use Rattle.meaning.specs.Values.{signed}

@@ -1,7 +1,6 @@
 -- What the image's decoders answer, and what its writers write.
-use Rattle.std.specs.Prelude.{◌≡◌, Bool, false, List, [], ◌∷◌, ◌++◌, ℕ, leb, length}
+use Rattle.std.specs.Prelude.{◌≡◌, Bool, false, List, [], ◌∷◌, ◌++◌, ℕ, leb, length, if◌then◌else◌}
 use Rattle.std.proofs.Math.Option.{Option, none, some}
-use Rattle.meaning.specs.Base.{if◌then◌else◌}
 use Rattle.meaning.specs.Reading.{Read, bad, got, read_all}
 use Rattle.meaning.specs.Values.{signed}
 use Rattle.meaning.specs.Covers.{Image}

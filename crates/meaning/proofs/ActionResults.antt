@@ -1,5 +1,6 @@
 -- What an operation of the log and an action make where nothing fails, by their definitions alone: an expression that has a result comes
 -- to what it is worth, so the values for the chosen rows are a map over them, and operations built along rows are one for each, in order.
+use Rattle.std.specs.Prelude.{if◌then◌else◌}
 use mathlib.Core.Path.{◌≡◌, refl, sym, ap, ap₂, ◌∙◌, subst}
 use mathlib.Core.Bool.{Bool, true, false}
 use mathlib.Core.List.{List, [], ◌∷◌, map}
@@ -11,7 +12,7 @@ use lib.Signed.{mag}
 use lib.Count.{ones}
 use lib.Dec.{eqb, ltb, leb}
 use lib.ListN.{length, length-map, get_elem?}
-use Rattle.meaning.specs.Base.{if◌then◌else◌, both, each_or, ◌∈◌, first, later, Each, no_element, an_element}
+use Rattle.meaning.specs.Base.{both, each_or, ◌∈◌, first, later, Each, no_element, an_element}
 use Rattle.meaning.specs.Values.{in_range, plus}
 use Rattle.meaning.specs.Covers.{most_rows, last_handle, Row, Image, Expression, Term, Query, Reason, fixed, column, sum}
 use Rattle.meaning.specs.Covers.{insert_from_query, delete_rows, update_rows, delete, update}

@@ -1,5 +1,6 @@
 -- The row operations of a log operation or an action fit the image one after another: inserted rows take the next handles while there is
 -- room, and deleted or updated rows are live rows with distinct handles, so that each is still there when its turn comes.
+use Rattle.std.specs.Prelude.{if◌then◌else◌}
 use mathlib.Core.Path.{◌≡◌, refl, ap, ◌∙◌, subst}
 use mathlib.Core.Bool.{Bool, true, false}
 use mathlib.Core.List.{List, [], ◌∷◌, map}
@@ -12,7 +13,7 @@ use lib.Dec.{eqb, ltb, leb}
 use lib.Count.{ones}
 use lib.ListN.{length, get_or, length-append}
 use borrow.Author.Tests.{ltb-false, leb-true, ne_eqb}
-use Rattle.meaning.specs.Base.{if◌then◌else◌, bit, select, both, each_or, Each, no_element, an_element}
+use Rattle.meaning.specs.Base.{bit, select, both, each_or, Each, no_element, an_element}
 use Rattle.meaning.specs.Values.{in_range, plus}
 use Rattle.meaning.specs.Covers.{most_rows, last_handle, Row, Image, Source, Term, Query, Expression, Action, LogOperation, Outcome}
 use Rattle.meaning.specs.Covers.{Reason, rolled_back, failed, current, inserted, deleted, new_updated, old_updated, fixed}

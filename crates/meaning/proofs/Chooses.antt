@@ -1,4 +1,5 @@
 -- Queries: each test over a list says what it says of the elements, and a choice by a test picks those that pass.
+use Rattle.std.specs.Prelude.{if◌then◌else◌}
 use mathlib.Core.Path.{◌≡◌, refl, sym, ap, subst}
 use mathlib.Core.Logic.{◌↔◌, ◌⊎◌, inl, inr}
 use mathlib.Core.Bool.{Bool, true, false, ◌&&◌, not}
@@ -9,7 +10,7 @@ use lib.IntN.{ℤ, pos, negsuc}
 use lib.Dec.{T, eqb, leb}
 use lib.Signed.{le_z, lt_z}
 use borrow.Author.Tests.{eqb-true, eq-eqb, leb-true, le-leb}
-use Rattle.meaning.specs.Base.{if◌then◌else◌, any, all, select, ◌∈◌, first, later}
+use Rattle.meaning.specs.Base.{any, all, select, ◌∈◌, first, later}
 use Rattle.meaning.specs.Base.{Each, no_element, an_element, Picks, no_more, takes, leaves}
 use Rattle.meaning.specs.Values.{agree, compare}
 use Rattle.meaning.specs.Covers.{Row, Comparison, Source, Pair, Term}

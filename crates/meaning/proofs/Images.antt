@@ -1,5 +1,6 @@
 -- Sound images stay sound: an operation that fits a sound image leaves a sound image. An insert puts the next handle at the end, a delete
 -- leaves out a row, an update keeps the handle, so the handles still rise.
+use Rattle.std.specs.Prelude.{if◌then◌else◌}
 use mathlib.Core.Path.{◌≡◌, refl, sym, ◌∙◌}
 use mathlib.Core.Bool.{Bool, true, false}
 use mathlib.Core.List.{List, [], ◌∷◌, ◌++◌}
@@ -8,7 +9,7 @@ use native.Mathlib.Omega.{arith}
 use lib.Dec.{eqb}
 use lib.ListN.{length, length-append, length-map}
 use borrow.Author.Tests.{eqb-true}
-use Rattle.meaning.specs.Base.{if◌then◌else◌, Each, no_element, an_element}
+use Rattle.meaning.specs.Base.{Each, no_element, an_element}
 use Rattle.meaning.specs.Covers.{Row, Image}
 use Rattle.meaning.specs.RowOperations.{RowOperation, without, with_row, make, make_all}
 use Rattle.meaning.specs.Made.{Proper, Rising, no_row, above, Sound, Fits, insert_fits, delete_fits, update_fits, Made}

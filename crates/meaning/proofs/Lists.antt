@@ -1,5 +1,6 @@
 -- Laws of Bools, optional values and lists: lists of which each element is so, tests over lists, and membership, `any (eqb k) xs`, all by
 -- induction. Distinct numbers that all stand in a list are no more than it has, as each takes away another of its elements.
+use Rattle.std.specs.Prelude.{if◌then◌else◌}
 use mathlib.Core.Path.{◌≡◌, refl, sym, ap, ◌∙◌, subst}
 use mathlib.Core.Bool.{Bool, true, false, ◌&&◌, ◌||◌}
 use mathlib.Core.List.{List, [], ◌∷◌, ◌++◌}
@@ -10,7 +11,7 @@ use native.Mathlib.Omega.{arith}
 use lib.Dec.{eqb}
 use lib.ListN.{length, drop, get_elem?}
 use borrow.Author.Tests.{eqb-true, eqb-false, eq-eqb}
-use Rattle.meaning.specs.Base.{if◌then◌else◌, maybe, up_from, any, all, select, first_with, Each, no_element, an_element}
+use Rattle.meaning.specs.Base.{maybe, up_from, any, all, select, first_with, Each, no_element, an_element}
 
 -- ---- Bools
 

@@ -1,5 +1,6 @@
 -- The mask of every update in a run is 1..15: the parsers let no other pass, and an operation's mask is that of its action or of its
 -- operation of the log.
+use Rattle.std.specs.Prelude.{if◌then◌else◌}
 use mathlib.Core.Path.{◌≡◌, refl}
 use mathlib.Core.Bool.{Bool, true, false}
 use mathlib.Core.List.{List, [], ◌∷◌, ◌++◌, map}
@@ -8,7 +9,7 @@ use Prim.Native.Nat.{ℕ, ◌+◌}
 use lib.IntN.{ℤ}
 use lib.Dec.{ltb}
 use lib.ListN.{length, get_elem?}
-use Rattle.meaning.specs.Base.{if◌then◌else◌, maybe, each_or, Each, no_element, an_element}
+use Rattle.meaning.specs.Base.{maybe, each_or, Each, no_element, an_element}
 use Rattle.meaning.specs.Covers.{most_rows, last_handle, Row, Image, Rule, Action, LogOperation, Outcome}
 use Rattle.meaning.specs.Covers.{rollback, insert_row, insert_from_query, delete_rows, update_rows, insert, delete, update}
 use Rattle.meaning.specs.RowOperations.{RowOperation, inserts, deletes, updates, make_all, row_at}

@@ -1,5 +1,6 @@
 -- A net effect as a list by rising handle: what it says of each handle is `net`, and one operation more joins it at its handle. It holds
 -- because a handle that no operation names has no effect, and an operation changes the effect of its own handle only.
+use Rattle.std.specs.Prelude.{if◌then◌else◌}
 use mathlib.Core.Path.{◌≡◌, refl, sym, ap, ◌∙◌}
 use mathlib.Core.Logic.{◌≢◌}
 use mathlib.Core.Bool.{Bool, true, false, ◌||◌}
@@ -8,7 +9,6 @@ use Prim.Native.Nat.{ℕ, suc, ◌≤◌, ◌<◌}
 use native.Mathlib.Omega.{arith}
 use lib.Dec.{eqb, ltb}
 use borrow.Author.Tests.{eqb-true, eqb-false, ne_eqb, ltb-true, ltb-false, lt-ltb, le-ltb}
-use Rattle.meaning.specs.Base.{if◌then◌else◌}
 use Rattle.meaning.specs.RowOperations.{RowOperation, Effect, NetEffect, nothing, inserted, deleted, updated, handle_of, join}
 use Rattle.meaning.specs.RowOperations.{effect_of, single, joined_on, net, place, named_on, named, entry, entries, net_effect, effect_at}
 use Rattle.meaning.specs.Theorems.{SaysNet}

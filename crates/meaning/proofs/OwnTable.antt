@@ -1,4 +1,5 @@
 -- What a net effect says of one table: by rising handle still, and of other tables a rule is not woken, nor does it draw a row.
+use Rattle.std.specs.Prelude.{if◌then◌else◌}
 use mathlib.Core.Path.{◌≡◌, refl}
 use mathlib.Core.Bool.{Bool, true, false, ◌&&◌}
 use mathlib.Core.List.{List, [], ◌∷◌}
@@ -7,7 +8,7 @@ use Prim.Native.Nat.{ℕ, suc, ◌≤◌}
 use native.Mathlib.Omega.{arith}
 use lib.Dec.{eqb}
 use lib.ListN.{length}
-use Rattle.meaning.specs.Base.{if◌then◌else◌, bit, any, gather, Each, no_element, an_element}
+use Rattle.meaning.specs.Base.{bit, any, gather, Each, no_element, an_element}
 use Rattle.meaning.specs.Covers.{Row, Rule, Image}
 use Rattle.meaning.specs.RowOperations.{RowOperation, row_at, make_all, Effect, nothing, on_table, own_of}
 use Rattle.meaning.specs.RowOperations.{inserted, deleted, updated, NetEffect, net, named, entry, entries, net_effect}

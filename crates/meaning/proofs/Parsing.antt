@@ -1,5 +1,6 @@
 -- What a parser that succeeds tells of the bytes, and what makes it succeed. A parser and a writer belong together (`Reads`) where the
 -- parser gives a value exactly if the slice holds the writer's bytes of it there; sequences of such parsers belong to joined bytes.
+use Rattle.std.specs.Prelude.{if◌then◌else◌}
 use mathlib.Core.Path.{◌≡◌, refl, sym, ap, ◌∙◌}
 use mathlib.Core.Bool.{Bool, true, false}
 use mathlib.Core.List.{List, [], ◌∷◌, ◌++◌, append_assoc, append-nil}
@@ -14,7 +15,7 @@ use lib.Dec.{eqb, leb, ltb}
 use lib.ListN.{length, take, drop, length-append, length-drop}
 use lib.Seq.{take-append_seam, drop-cons, drop-drop, drop-append_seam, drop-length, get_or-drop}
 use borrow.Author.Tests.{eqb-true, eq-eqb, leb-true, le-leb, ltb-true, ltb-false, lt-ltb, le-ltb}
-use Rattle.meaning.specs.Base.{if◌then◌else◌, within, Each, no_element, an_element}
+use Rattle.meaning.specs.Base.{within, Each, no_element, an_element}
 use Rattle.meaning.specs.Reading.{Read, bad, got, Parser, on_from, must, byte_at, byte_within, byte, number16, number32, many, bytes_left}
 use Rattle.meaning.specs.Reading.{read_all, value_of}
 use Rattle.meaning.specs.Values.{signed, unsigned}

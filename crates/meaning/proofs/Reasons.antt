@@ -1,4 +1,5 @@
 -- Reasons: an operation or an action ends in one of a few ways, each with the tests that lead there, and no two reasons are due at once.
+use Rattle.std.specs.Prelude.{if◌then◌else◌}
 use mathlib.Core.Path.{◌≡◌, refl, ap, subst}
 use mathlib.Core.Logic.{◌↔◌, ◌≢◌}
 use mathlib.Core.Bool.{Bool, true, false}
@@ -11,7 +12,7 @@ use lib.Signed.{mag}
 use lib.Dec.{ltb, leb}
 use lib.ListN.{length}
 use borrow.Author.Tests.{ltb-true, ltb-false, leb-false, lt-leb}
-use Rattle.meaning.specs.Base.{if◌then◌else◌, maybe, both, each_or, ◌∈◌, first, later}
+use Rattle.meaning.specs.Base.{maybe, both, each_or, ◌∈◌, first, later}
 use Rattle.meaning.specs.Values.{in_range, plus}
 use Rattle.meaning.specs.Covers.{most_rows, last_handle, Row, Image, Expression, Action, LogOperation, Reason, rolled_back, failed}
 use Rattle.meaning.specs.Covers.{fixed, column, sum, rollback, insert_row, insert_from_query, delete_rows, update_rows}

@@ -1,5 +1,6 @@
 -- Every row operation of an accepted run fits the image that it is made on: the parsers give a sound image, good operations and good rules,
 -- and from there on StepsFit says so. Each stretch between considerations of a rule then fits the image that it starts from.
+use Rattle.std.specs.Prelude.{if◌then◌else◌}
 use mathlib.Core.Path.{◌≡◌, refl, sym, ap, ◌∙◌, subst}
 use mathlib.Core.Bool.{Bool, true, false}
 use mathlib.Core.List.{List, [], ◌++◌}
@@ -10,7 +11,7 @@ use borrow.Author.Tests.{leb-true}
 use lib.Dec.{eqb, ltb, leb}
 use lib.Count.{ones}
 use lib.ListN.{length}
-use Rattle.meaning.specs.Base.{if◌then◌else◌, maybe, within, Each}
+use Rattle.meaning.specs.Base.{maybe, within, Each}
 use Rattle.meaning.specs.Reading.{Read, bad, got, Parser, ◌>>=◌, ◌>>◌, pure, malformed, must, byte_within, byte, number16, number32}
 use Rattle.meaning.specs.Reading.{many, read_all}
 use Rattle.meaning.specs.Covers.{most_rules, most_actions, most_operations, most_steps, Book, LogOperation}

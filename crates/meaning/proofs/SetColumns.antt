@@ -1,5 +1,6 @@
 -- The row after an update has in each column of the mask the value whose place is the number of set bits below: `masked` goes through the
 -- columns from the lowest, and takes the next value at each set bit.
+use Rattle.std.specs.Prelude.{if◌then◌else◌}
 use mathlib.Core.Path.{◌≡◌, refl, sym, ap, ap₂, ◌∙◌, subst}
 use mathlib.Core.Bool.{Bool, true, false}
 use mathlib.Core.List.{List, [], ◌∷◌, map}
@@ -12,7 +13,7 @@ use lib.Count.{ones, ones_step, ones_cat}
 use lib.ListN.{length, get_or}
 use lib.Pow.{pow_pos, split, field, mod-mod-pow, shr-shr}
 use borrow.Author.Tests.{eqb-true, eqb-false}
-use Rattle.meaning.specs.Base.{if◌then◌else◌, bit}
+use Rattle.meaning.specs.Base.{bit}
 use Rattle.meaning.specs.Covers.{Row}
 use Rattle.meaning.specs.Processing.Queries.{cell}
 use Rattle.meaning.specs.Processing.Actions.{masked, updated_row}

@@ -1,5 +1,6 @@
 -- Transition tables: an entry of a net effect gives at most one row, of its own handle, and each handle has one entry; so the rows that are
 -- gathered are those that the entries of their handles give, by rising handle.
+use Rattle.std.specs.Prelude.{if◌then◌else◌}
 use mathlib.Core.Path.{◌≡◌, refl, sym, ap, ◌∙◌, subst}
 use mathlib.Core.Logic.Iff
 use mathlib.Core.Logic.{◌↔◌}
@@ -10,7 +11,7 @@ use Prim.Native.Nat.{ℕ, suc, ◌≤◌}
 use native.Mathlib.Omega.{arith}
 use lib.Dec.{eqb}
 use borrow.Author.Tests.{eqb-true, eq-eqb}
-use Rattle.meaning.specs.Base.{if◌then◌else◌, maybe, before, gather, ◌∈◌, first, later, Each, no_element, an_element}
+use Rattle.meaning.specs.Base.{maybe, before, gather, ◌∈◌, first, later, Each, no_element, an_element}
 use Rattle.meaning.specs.Covers.{Row, Rule, Image}
 use Rattle.meaning.specs.RowOperations.{RowOperation, inserts, deletes, updates, row_at, make_all, Effect, NetEffect, nothing, inserted}
 use Rattle.meaning.specs.RowOperations.{deleted, updated, net, named, net_effect, effect_at}

@@ -1,5 +1,6 @@
 -- Every row operation of a run fits the image that it is made on, and the image at the end is the start image with all of them made on it.
 -- A rule's transition tables hold live rows, and rows that an operation deleted or updated when they were live: all of them are proper.
+use Rattle.std.specs.Prelude.{if◌then◌else◌}
 use mathlib.Core.Path.{◌≡◌, refl, sym, ap, ◌∙◌, subst}
 use mathlib.Core.Bool.{Bool, true, false}
 use mathlib.Core.List.{List, [], ◌∷◌, ◌++◌, append-nil, append_assoc}
@@ -7,7 +8,7 @@ use mathlib.Core.Option.{Option, none, some}
 use Prim.Native.Nat.{ℕ, suc}
 use lib.Dec.{eqb}
 use lib.ListN.{get_or, get_elem?}
-use Rattle.meaning.specs.Base.{if◌then◌else◌, maybe, before, gather, Each, no_element, an_element}
+use Rattle.meaning.specs.Base.{maybe, before, gather, Each, no_element, an_element}
 use Rattle.meaning.specs.Covers.{Row, Image, Rule, Action, LogOperation, Outcome, commit, step_limit}
 use Rattle.meaning.specs.RowOperations.{RowOperation, inserts, deletes, updates, Effect, NetEffect, nothing, inserted, deleted}
 use Rattle.meaning.specs.RowOperations.{updated, handle_of, row_at, make_all, kind, join_kind, over, joined_as, join, effect_of, single}

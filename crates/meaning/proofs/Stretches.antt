@@ -1,5 +1,6 @@
 -- What two stretches say of one table: the effects of the later join those of the earlier. Lists by rising handle that say the same of each
 -- handle are the same; and on each handle it holds, since a handle never changes its table while operations fit.
+use Rattle.std.specs.Prelude.{if◌then◌else◌}
 use mathlib.Core.Path.{◌≡◌, refl, sym, ap, ◌∙◌, subst}
 use mathlib.Core.Logic.{◌≢◌}
 use mathlib.Core.Bool.{Bool, true, false}
@@ -8,7 +9,6 @@ use Prim.Native.Nat.{ℕ, suc, ◌≤◌, ◌<◌}
 use native.Mathlib.Omega.{arith}
 use lib.Dec.{eqb, ltb}
 use borrow.Author.Tests.{eqb-true, eqb-false, ne_eqb, ltb-true, ltb-false}
-use Rattle.meaning.specs.Base.{if◌then◌else◌}
 use Rattle.meaning.specs.Covers.{Image}
 use Rattle.meaning.specs.RowOperations.{RowOperation, Effect, nothing, inserted, deleted, updated, NetEffect, join, net, entry}
 use Rattle.meaning.specs.RowOperations.{net_effect, effect_at, on_table, own_of}

@@ -1,5 +1,6 @@
 -- How many bytes a parser takes, and that it looks only at those from its place on. Both hold of one byte, and so of all that is read by
 -- bytes, one after another: the least and the most are worked out along the layout.
+use Rattle.std.specs.Prelude.{if◌then◌else◌}
 use mathlib.Core.Path.{◌≡◌, refl, sym, ap, ◌∙◌}
 use mathlib.Core.Bool.{Bool, true, false, ◌&&◌}
 use mathlib.Core.List.{List, [], ◌++◌}
@@ -11,7 +12,7 @@ use lib.Count.{ones, ones-le}
 use lib.ListN.{length, drop, replicate, get_or, length-append}
 use lib.Seq.{get_or-drop, drop-drop}
 use borrow.Author.Tests.{leb-true}
-use Rattle.meaning.specs.Base.{if◌then◌else◌, bit, within}
+use Rattle.meaning.specs.Base.{bit, within}
 use Rattle.meaning.specs.Reading.{Read, bad, got, Parser, on_from, ◌>>=◌, ◌>>◌, pure, malformed, must, byte_at, read_byte, byte_within}
 use Rattle.meaning.specs.Reading.{byte, number16, number32, many}
 use Rattle.meaning.specs.Covers.{most_rules, most_actions, most_terms, most_pairs, most_operations, most_steps}

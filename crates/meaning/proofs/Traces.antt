@@ -1,5 +1,6 @@
 -- Laws of traces: how the operations, the stretches of a rule and what it was given go over parts of a trace, each by a walk along it;
 -- and the steps of a run by cases.
+use Rattle.std.specs.Prelude.{if◌then◌else◌}
 use mathlib.Core.Path.{◌≡◌, refl, sym, ap, ◌∙◌}
 use mathlib.Core.Bool.{Bool, true, false}
 use mathlib.Core.List.{List, [], ◌∷◌, ◌++◌, map, append_assoc, append-nil}
@@ -8,7 +9,7 @@ use Prim.Native.Nat.{ℕ, zero, suc, ◌+◌}
 use native.Mathlib.Omega.{arith}
 use lib.Dec.{eqb}
 use lib.Seq.{append_snoc}
-use Rattle.meaning.specs.Base.{if◌then◌else◌, maybe}
+use Rattle.meaning.specs.Base.{maybe}
 use Rattle.meaning.specs.Covers.{Image, Rule, LogOperation, Outcome, commit, step_limit}
 use Rattle.meaning.specs.RowOperations.{RowOperation, NetEffect, Effect, join, effect_at, make_all}
 use Rattle.meaning.specs.Processing.{State, Event, made, considered, Ending, ended, after_events, run_log, consider, moved}

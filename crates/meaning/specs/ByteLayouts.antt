@@ -1,8 +1,8 @@
 -- Byte layouts: image, book and log as they are read, each refusing exactly what is malformed, and the bytes of an image.
-use Rattle.std.specs.Prelude.{Bool, true, ◌&&◌, List, [], ◌∷◌, ◌++◌, ℕ, ◌/◌, ◌%◌, ◌^◌, ◌-◌, ℤ, eqb, leb, ltb, length}
+use Rattle.std.specs.Prelude.{Bool, true, ◌&&◌, List, [], ◌∷◌, ◌++◌, ℕ, ◌/◌, ◌%◌, ◌^◌, ◌-◌, ℤ, eqb, leb, ltb, length, if◌then◌else◌}
 use Rattle.std.proofs.Math.Option.{Option, none, some}
 use Rattle.std.specs.Int.Count.{ones}
-use Rattle.meaning.specs.Base.{if◌then◌else◌, bit, within}
+use Rattle.meaning.specs.Base.{bit, within}
 use Rattle.meaning.specs.Reading.{Parser, ◌>>=◌, ◌>>◌, pure, malformed, must, byte, byte_within, number16, number32, many, bytes_left}
 use Rattle.meaning.specs.Values.{signed, unsigned}
 use Rattle.meaning.specs.Covers.{most_rows, most_rules, most_actions, most_terms, most_pairs, most_operations, most_steps}

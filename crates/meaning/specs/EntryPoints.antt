@@ -1,6 +1,6 @@
 -- Entry points and what they say: refusals in their order, answers with their numbers, and what each call leaves in what it was lent.
-use Rattle.std.specs.Prelude.{List, [], ◌∷◌, ◌++◌, map, ℕ, zero, suc, ◌+◌, ◌-◌, ◌/◌, ◌%◌, min, ℤ, pos, negsuc, ltb, length, take, drop, replicate}
-use Rattle.meaning.specs.Base.{if◌then◌else◌, maybe, in_front_of, ascii}
+use Rattle.std.specs.Prelude.{List, [], ◌∷◌, ◌++◌, map, ℕ, zero, suc, ◌+◌, ◌-◌, ◌/◌, ◌%◌, min, ℤ, pos, negsuc, ltb, length, take, drop, replicate, if◌then◌else◌}
+use Rattle.meaning.specs.Base.{maybe, in_front_of, ascii}
 use Rattle.meaning.specs.Reading.{Read, bad, got, many, number32, read_all}
 use Rattle.meaning.specs.Covers.{Row, Image, Book, Outcome, Reason}
 use Rattle.meaning.specs.Covers.{commit, rolled_back, step_limit, failed, no_such_row, full, handles_used_up, sum_out_of_range}

@@ -1,8 +1,8 @@
 -- Processing: the log, then considerations of triggered rules until none is triggered, the limit is reached, or the run ends.
-use Rattle.std.specs.Prelude.{Bool, true, false, ◌&&◌, List, [], ◌∷◌, ◌++◌, map, ℕ, zero, suc, length, get_or, drop, set, replicate}
+use Rattle.std.specs.Prelude.{Bool, true, false, ◌&&◌, List, [], ◌∷◌, ◌++◌, map, ℕ, zero, suc, length, get_or, drop, set, replicate, if◌then◌else◌}
 use Rattle.std.proofs.Math.Option.{Option, none, some}
 use Rattle.std.proofs.Math.ListN.{get_elem?}
-use Rattle.meaning.specs.Base.{if◌then◌else◌, maybe, first_with, some_in, any}
+use Rattle.meaning.specs.Base.{maybe, first_with, some_in, any}
 use Rattle.meaning.specs.Covers.{Row, Image, Rule, Query, Action, LogOperation, Outcome, commit, step_limit}
 use Rattle.meaning.specs.RowOperations.{RowOperation, NetEffect, net_effect, make_all}
 pub mod TotalOrder

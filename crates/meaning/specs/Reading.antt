@@ -1,7 +1,7 @@
 -- How layouts are read: a parser looks at a place of a slice, and gives a value and the place after it, or is bad.
-use Rattle.std.specs.Prelude.{Bool, List, [], ◌∷◌, ℕ, zero, suc, ◌+◌, ◌*◌, eqb, length, get_or}
+use Rattle.std.specs.Prelude.{Bool, List, [], ◌∷◌, ℕ, zero, suc, ◌+◌, ◌*◌, eqb, length, get_or, if◌then◌else◌}
 use Rattle.std.proofs.Math.Option.{Option, none, some}
-use Rattle.meaning.specs.Base.{if◌then◌else◌, within}
+use Rattle.meaning.specs.Base.{within}
 
 pub data Read (A : Type 0) : Type 0 where
   bad : Read A

@@ -1,8 +1,8 @@
 -- Row operations and net effects (document 001, section 2).
-use Rattle.std.specs.Prelude.{Bool, false, not, List, [], ◌∷◌, ◌++◌, map, ℕ, suc, eqb, ltb, get_or}
+use Rattle.std.specs.Prelude.{Bool, false, not, List, [], ◌∷◌, ◌++◌, map, ℕ, suc, eqb, ltb, get_or, if◌then◌else◌}
 use Rattle.std.proofs.Math.Option.{Option}
 use Rattle.std.specs.Int.Bits.{bit_or}
-use Rattle.meaning.specs.Base.{if◌then◌else◌, select, first_with}
+use Rattle.meaning.specs.Base.{select, first_with}
 use Rattle.meaning.specs.Covers.{Row, Image}
 
 -- A row operation: the row that it inserts; the row that it deletes, as it is then; the columns that it names, and the row before and

@@ -1,7 +1,7 @@
 -- What is true of the specification, by document 01's headings: statements only. proofs/Theorems.antt has a proof of each, under its name.
-use Rattle.std.specs.Prelude.{◌≡◌, ◌≢◌, Bool, true, false, ◌&&◌, List, [], ◌∷◌, ◌++◌, map, ℕ, ◌*◌, ◌≤◌, ◌<◌, eqb, ltb, length}
+use Rattle.std.specs.Prelude.{◌≡◌, ◌≢◌, Bool, true, false, ◌&&◌, List, [], ◌∷◌, ◌++◌, map, ℕ, ◌*◌, ◌≤◌, ◌<◌, eqb, ltb, length, if◌then◌else◌}
 use Rattle.std.proofs.Math.Option.{none, some}
-use Rattle.meaning.specs.Base.{if◌then◌else◌, any, all}
+use Rattle.meaning.specs.Base.{any, all}
 use Rattle.meaning.specs.Reading.{read_all}
 use Rattle.meaning.specs.Covers.{most_rows, Row, Image, Rule, Query, commit}
 use Rattle.meaning.specs.ByteLayouts

@@ -1,9 +1,9 @@
 -- What is said of a trace: its operations, the places in it, the stretches between the considerations of a rule, what follows the log and a
 -- consideration, and what a handle's rows and masks alone say of a stretch, without the join table.
-use Rattle.std.specs.Prelude.{◌≡◌, false, List, [], ◌∷◌, ◌++◌, map, ℕ, suc, eqb}
+use Rattle.std.specs.Prelude.{◌≡◌, false, List, [], ◌∷◌, ◌++◌, map, ℕ, suc, eqb, if◌then◌else◌}
 use Rattle.std.proofs.Math.Option.{Option, none, some}
 use Rattle.std.specs.Int.Bits.{bit_or}
-use Rattle.meaning.specs.Base.{if◌then◌else◌, bit}
+use Rattle.meaning.specs.Base.{bit}
 use Rattle.meaning.specs.Covers.{Row, commit, step_limit}
 use Rattle.meaning.specs.RowOperations.{RowOperation, inserts, deletes, updates, Effect, NetEffect, join, effect_at, nothing}
 use Rattle.meaning.specs.RowOperations.{inserted, deleted, updated}

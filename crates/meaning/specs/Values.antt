@@ -1,8 +1,7 @@
 -- Values: signed 32-bit numbers, in two's complement as bytes. All that is asked of a value is asked here.
-use Rattle.std.specs.Prelude.{Bool, ◌&&◌, not, ℕ, ◌-◌, ℤ, pos, negsuc, ◌+ℤ◌, leb, ltb}
+use Rattle.std.specs.Prelude.{Bool, ◌&&◌, not, ℕ, ◌-◌, ℤ, pos, negsuc, ◌+ℤ◌, leb, ltb, if◌then◌else◌}
 use Rattle.std.proofs.Math.Option.{Option, none, some}
 use Rattle.std.specs.Int.Signed.{lt_z, le_z, mag}
-use Rattle.meaning.specs.Base.{if◌then◌else◌}
 use Rattle.meaning.specs.Covers.{Comparison, equal, unequal, less, at_most, greater, at_least}
 
 -- the value that a 32-bit word stands for

@@ -1,4 +1,5 @@
 -- A book that is read has at most 16 rules, so a book check that is not refused tells no more.
+use Rattle.std.specs.Prelude.{if◌then◌else◌}
 use mathlib.Core.Path.{◌≡◌, refl, ap}
 use mathlib.Core.Bool.{Bool, true, false}
 use mathlib.Core.List.{List}
@@ -6,7 +7,6 @@ use Prim.Native.Nat.{ℕ, ◌≤◌}
 use native.Mathlib.Omega.{arith}
 use lib.Dec.{ltb}
 use lib.ListN.{length}
-use Rattle.meaning.specs.Base.{if◌then◌else◌}
 use Rattle.meaning.specs.Covers.{most_rules}
 use Rattle.meaning.specs.EntryPoints.{JudgedBook, refused_book, accepted_book, judge_book, CheckResult, CheckAnswer, rule_count}
 use Rattle.meaning.specs.EntryPoints.{checked, check_book, check_output, output_too_short}

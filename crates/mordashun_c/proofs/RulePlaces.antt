@@ -1,5 +1,6 @@
 -- The word of a rule's place. What is read of a book stands in it, and a rule takes bytes; an accepted book is short. So start and size fit
 -- their bits, and a caller who takes the word apart finds the rule's bytes.
+use Rattle.std.specs.Prelude.{if◌then◌else◌}
 use mathlib.Core.Path.{◌≡◌, refl, sym, ap, ◌∙◌}
 use mathlib.Core.Bool.{Bool, true, false}
 use mathlib.Core.List.{List, []}
@@ -9,7 +10,6 @@ use native.Mathlib.Omega.{arith}
 use borrow.Author.Tests.{lt-ltb, le-ltb}
 use lib.Dec.{ltb}
 use lib.ListN.{length, take, drop, length-take, length-drop}
-use Rattle.meaning.specs.Base.{if◌then◌else◌}
 use Rattle.meaning.specs.Reading.{Read, bad, got, many, read_all}
 use Rattle.meaning.specs.Covers.{Book, Rule}
 use Rattle.meaning.specs.ByteLayouts as ByteLayouts

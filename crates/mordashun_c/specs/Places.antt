@@ -1,7 +1,6 @@
 -- Where the bytes of rule k stand in the caller's book: the steps are those of `EntryPoints.rule_bytes`, and the place is 0 wherever those
 -- give no bytes. The place and the number of bytes are told as one word.
-use Rattle.std.specs.Prelude.{◌≡◌, List, [], ℕ, ◌+◌, ◌*◌, ◌/◌, ◌%◌, ◌≤◌, ◌<◌, ltb, length, take, drop}
-use Rattle.meaning.specs.Base.{if◌then◌else◌}
+use Rattle.std.specs.Prelude.{◌≡◌, List, [], ℕ, ◌+◌, ◌*◌, ◌/◌, ◌%◌, ◌≤◌, ◌<◌, ltb, length, take, drop, if◌then◌else◌}
 use Rattle.meaning.specs.Reading.{Read, bad, got, many}
 use Rattle.meaning.specs.Covers.{Book}
 use Rattle.meaning.specs.ByteLayouts as ByteLayouts

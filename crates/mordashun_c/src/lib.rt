@@ -17,6 +17,7 @@
 //   0..31   how many bytes
 //   32..63  where the first stands
 #![tactic(auto)]
+
 ghost use Rattle.std.specs.Prelude.{◌≡◌, ◌+◌, ◌*◌, ◌≤◌, ◌<◌, length};
 ghost use Rattle.meaning.specs.Covers.{most_steps, most_rules};
 ghost use Rattle.meaning.specs.EntryPoints as EntryPoints;

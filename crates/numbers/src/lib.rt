@@ -1,5 +1,6 @@
 // Document 01's numbers of refusals, outcomes and reasons, each once.
 #![tactic(auto)]
+
 ghost use Rattle.std.specs.Prelude.{◌≡◌};
 ghost use Rattle.meaning.specs.EntryPoints.{refusal_number, outcome_number, failure_number, reason_number};
 ghost use Rattle.changes.specs.Steps.{reason_meant};

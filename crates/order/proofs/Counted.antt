@@ -1,5 +1,6 @@
 -- Tests over the numbers 0 .. n - 1, as a loop makes them that counts what is left of n down: the numbers still to be
 -- tested are n - left and those after it, and a turn tests the first of them.
+use Rattle.std.specs.Prelude.{if◌then◌else◌}
 use mathlib.Core.Bool.{Bool, true, false}
 use mathlib.Core.List.{List, [], ◌∷◌}
 use mathlib.Core.Option.{some}
@@ -7,7 +8,7 @@ use mathlib.Core.Path.{◌≡◌, refl, sym, ap, ap₂, ◌∙◌}
 use Prim.Native.Nat.{ℕ, zero, suc, ◌+◌, ◌-◌, ◌<◌, ◌≤◌}
 use native.Mathlib.Nat.{sub_self}
 use native.Mathlib.Omega.{arith}
-use Rattle.meaning.specs.Base.{up_from, all, first_with, if◌then◌else◌}
+use Rattle.meaning.specs.Base.{up_from, all, first_with}
 
 none_left : (n left : ℕ) → left ≤ 0 → up_from (n - left) left ≡ []
 none_left n zero h = refl

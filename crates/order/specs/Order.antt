@@ -1,7 +1,7 @@
 -- What the answers of the order's builder, and of its parts, mean.
-use Rattle.std.specs.Prelude.{Bool, false, ◌&&◌, ◌||◌, not, List, ◌≡◌, ℕ, ◌<◌, take, get_or}
+use Rattle.std.specs.Prelude.{Bool, false, ◌&&◌, ◌||◌, not, List, ◌≡◌, ℕ, ◌<◌, take, get_or, if◌then◌else◌}
 use Rattle.std.proofs.Math.Option.{Option, none, some}
-use Rattle.meaning.specs.Base.{if◌then◌else◌, bit, all, up_from}
+use Rattle.meaning.specs.Base.{bit, all, up_from}
 use Rattle.order.specs.declared.Order.{Order}
 use Rattle.order.specs.declared.ReadyRule.{ReadyRule}
 use Rattle.order.specs.declared.ReadyRule.TheVariants.{At, Nothing}

@@ -1,9 +1,8 @@
 -- What is read off a well-formed book once: where its rules stand, the own table of each active one, what each looks out for, and their
 -- total order.
-use Rattle.std.specs.Prelude.{◌≡◌, List, ℕ, ◌≤◌, ◌<◌, get_or}
+use Rattle.std.specs.Prelude.{◌≡◌, List, ℕ, ◌≤◌, ◌<◌, get_or, if◌then◌else◌}
 use Rattle.std.proofs.Math.Option.{some}
 use Rattle.std.proofs.Math.ListN.{get_elem?}
-use Rattle.meaning.specs.Base.{if◌then◌else◌}
 use Rattle.meaning.specs.Reading.{Read, bad, got}
 use Rattle.meaning.specs.Covers.{Rule}
 use Rattle.meaning.specs.ByteLayouts as ByteLayouts

@@ -1,4 +1,5 @@
 -- The steps of a run by what is triggered first and what its consideration results in: each case is one clause of their definition.
+use Rattle.std.specs.Prelude.{if◌then◌else◌}
 use mathlib.Core.Path.{◌≡◌, refl}
 use mathlib.Core.Bool.{Bool, true, false}
 use mathlib.Core.List.{List, [], ◌∷◌}
@@ -7,7 +8,7 @@ use Prim.Native.Nat.{ℕ, zero, suc, ◌+◌, ◌-◌, ◌≤◌, ◌<◌}
 use native.Mathlib.Omega.{arith}
 use native.Mathlib.Numerals.{unary_clauses}
 use lib.ListN.{get_or, take}
-use Rattle.meaning.specs.Base.{if◌then◌else◌, first_with}
+use Rattle.meaning.specs.Base.{first_with}
 use Rattle.meaning.specs.Covers.{Rule, Outcome, commit, step_limit}
 use Rattle.meaning.specs.RowOperations.{RowOperation, make_all}
 use Rattle.meaning.specs.Processing.{State, ended, after_events, consider, moved, consideration, first_triggered, steps}

@@ -1,12 +1,13 @@
 -- Laws of tests over lists: over rows that stand as slots, and over the rows of a source.
 -- A source's rows are those that it shows of the table where they stand, so a test over them is a test over that table.
+use Rattle.std.specs.Prelude.{if◌then◌else◌}
 use mathlib.Core.Path.{◌≡◌, refl, sym, ap, ◌∙◌}
 use mathlib.Core.Bool.{Bool, true, false, ◌&&◌, ◌||◌}
 use mathlib.Core.List.{List, [], ◌∷◌, map}
 use Prim.Native.Nat.{ℕ, ◌+◌, ◌≤◌, ◌<◌}
 use lib.Dec.{eqb, ltb}
 use lib.ListN.{get_or}
-use Rattle.meaning.specs.Base.{if◌then◌else◌, any, select, some_in}
+use Rattle.meaning.specs.Base.{any, select, some_in}
 use Rattle.meaning.specs.Covers.{Row, Pair}
 use Rattle.meaning.specs.Reading.{bad, got}
 use Rattle.meaning.specs.ByteLayouts.{pair}

@@ -1,11 +1,12 @@
 -- Laws of a match with the rows of a source. Those are the ones that the source shows of the table where they stand; where there are none
 -- the match holds of no row, and its opposite of every row.
+use Rattle.std.specs.Prelude.{if◌then◌else◌}
 use mathlib.Core.Path.{◌≡◌, refl, sym, ap, ◌∙◌}
 use mathlib.Core.Bool.{Bool, true, false, not}
 use mathlib.Core.List.{List, [], ◌∷◌, map}
 use Prim.Native.Nat.{ℕ}
 use native.Mathlib.Omega.{arith}
-use Rattle.meaning.specs.Base.{if◌then◌else◌, any, select}
+use Rattle.meaning.specs.Base.{any, select}
 use Rattle.meaning.specs.Covers.{Pair}
 use Rattle.meaning.specs.Processing.Queries.{agree_on}
 use Rattle.slots.specs.declared.Slot.{Slot}

@@ -1,5 +1,6 @@
 -- Places that are written one after another into an array of 64. Those written so far stand for the rows that were kept so far; the rest of
 -- the array is as it was, so the places that are narrowed and those that are kept may stand in one array.
+use Rattle.std.specs.Prelude.{if◌then◌else◌}
 use mathlib.Core.Path.{◌≡◌, refl, ap, ◌∙◌}
 use mathlib.Core.Bool.{Bool, true, false}
 use mathlib.Core.List.{List, [], ◌∷◌, ◌++◌, map, map-append, append-nil}
@@ -9,7 +10,7 @@ use borrow.Author.Tests.{lt-ltb, ltb-true, ltb-false}
 use lib.Dec.{ltb}
 use lib.ListN.{length, get_or, set, take, length-set}
 use lib.Seq.{take-suc, take_all, take-set-le, get_or-set_same, get_or-set_other}
-use Rattle.meaning.specs.Base.{if◌then◌else◌, select, some_in}
+use Rattle.meaning.specs.Base.{select, some_in}
 use Rattle.words.specs.Words.{low32_at}
 use Rattle.words.proofs.Laws.{split}
 use Rattle.slots.specs.declared.Slot.{Slot}

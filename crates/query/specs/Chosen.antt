@@ -1,6 +1,5 @@
 -- What is asked of the rows in the working room.
-use Rattle.std.specs.Prelude.{◌≡◌, Bool, true, List, ℕ, ◌+◌, eqb, ltb}
-use Rattle.meaning.specs.Base.{if◌then◌else◌}
+use Rattle.std.specs.Prelude.{◌≡◌, Bool, true, List, ℕ, ◌+◌, eqb, ltb, if◌then◌else◌}
 use Rattle.meaning.specs.Covers.{Row, Query}
 use Rattle.meaning.specs.Processing.Queries.{chosen, source_rows}
 use Rattle.slots.specs.declared.Slot.{Slot}

@@ -1,6 +1,6 @@
 -- Columns of picked rows, and what a match wants of a row of them.
-use Rattle.std.specs.Prelude.{◌≡◌, Bool, false, not, ◌&&◌, ◌||◌, List, ℕ, zero, suc, ◌≤◌, ◌<◌, eqb, length, get_or}
-use Rattle.meaning.specs.Base.{if◌then◌else◌, any}
+use Rattle.std.specs.Prelude.{◌≡◌, Bool, false, not, ◌&&◌, ◌||◌, List, ℕ, zero, suc, ◌≤◌, ◌<◌, eqb, length, get_or, if◌then◌else◌}
+use Rattle.meaning.specs.Base.{any}
 use Rattle.slots.specs.declared.Slot.{Slot}
 use Rattle.slots.specs.Slots.{blank, slot_value}
 use Rattle.room.specs.Room.{row_meant}

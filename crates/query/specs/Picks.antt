@@ -1,6 +1,6 @@
 -- Rows of a table by their places, and what a term says of a row that stands as a slot.
-use Rattle.std.specs.Prelude.{◌≡◌, Bool, not, ◌&&◌, List, map, ℕ, ◌≤◌, ◌<◌, length, get_or, take}
-use Rattle.meaning.specs.Base.{if◌then◌else◌, any}
+use Rattle.std.specs.Prelude.{◌≡◌, Bool, not, ◌&&◌, List, map, ℕ, ◌≤◌, ◌<◌, length, get_or, take, if◌then◌else◌}
+use Rattle.meaning.specs.Base.{any}
 use Rattle.meaning.specs.Covers.{Row, Pair, Term, constant, columns, match, no_match}
 use Rattle.meaning.specs.Values.{agree}
 use Rattle.meaning.specs.Processing.Queries.{cell, agree_on, holds}

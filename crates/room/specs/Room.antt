@@ -1,7 +1,6 @@
 -- The map of the working room, and what its tables mean.
-use Rattle.std.specs.Prelude.{◌≡◌, true, List, [], ◌∷◌, map, ℕ, ◌+◌, ◌*◌, ◌≤◌, ◌<◌, ℤ, eqb, length, get_or}
+use Rattle.std.specs.Prelude.{◌≡◌, true, List, [], ◌∷◌, map, ℕ, ◌+◌, ◌*◌, ◌≤◌, ◌<◌, ℤ, eqb, length, get_or, if◌then◌else◌}
 use Rattle.std.proofs.Math.Option.{none}
-use Rattle.meaning.specs.Base.{if◌then◌else◌}
 use Rattle.meaning.specs.Values.{signed}
 use Rattle.meaning.specs.Covers.{Row, Rule}
 use Rattle.meaning.specs.RowOperations.{Effect, NetEffect, nothing, inserted, deleted, updated}

@@ -1,6 +1,5 @@
 -- What a row operation leaves in the working room.
-use Rattle.std.specs.Prelude.{◌≡◌, List, [], ◌∷◌, ◌++◌, ℕ, suc, ◌+◌, ltb, get_or, set}
-use Rattle.meaning.specs.Base.{if◌then◌else◌}
+use Rattle.std.specs.Prelude.{◌≡◌, List, [], ◌∷◌, ◌++◌, ℕ, suc, ◌+◌, ltb, get_or, set, if◌then◌else◌}
 use Rattle.meaning.specs.Covers.{most_rows, last_handle}
 use Rattle.words.specs.Words.{low32_at}
 use Rattle.slots.specs.declared.Slot.{Slot}

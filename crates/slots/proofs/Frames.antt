@@ -1,6 +1,7 @@
 -- Frames compose and widen. Bytes that are alike, here or at another place, are the same word and the same slot; so what stands outside a
 -- frame stays. A store of a word changes its four bytes alone, and the six stores of a slot its twenty-four, since each store leaves the
 -- words before it as they were.
+use Rattle.std.specs.Prelude.{if◌then◌else◌}
 use mathlib.Core.Path.{◌≡◌, refl, ap, ◌∙◌}
 use mathlib.Core.List.{List}
 use Prim.Native.Nat.{ℕ, suc, ◌+◌, ◌*◌, ◌/◌, ◌%◌, ◌≤◌, ◌<◌}
@@ -10,7 +11,6 @@ use borrow.Author.Tests.{eqb-true, eqb-false, ltb-true, ltb-false}
 use lib.Dec.{eqb, ltb}
 use lib.ListN.{length, get_or}
 use lib.Seq.{sets, length-sets, ext_get_or}
-use Rattle.meaning.specs.Base.{if◌then◌else◌}
 use Rattle.words.specs.Words.{low_bytes4}
 use Rattle.words.specs.Words.{Bytes, low32_at}
 use Rattle.words.proofs.Laws.{split, low32-lt, read-written-low32, written-low32-below, written-low32-above}

@@ -1,5 +1,6 @@
 -- Laws for decoders, by what `words::byte` and `words::has` answered. A parser of one byte gives the byte that was looked at, or is bad,
 -- by whether the range admits it; a row source is read where the triggers admit it; a list that ends somewhere was read.
+use Rattle.std.specs.Prelude.{if◌then◌else◌}
 use mathlib.Core.Path.{◌≡◌, refl, sym, ◌∙◌}
 use mathlib.Core.Bool.{Bool, true, false, ◌||◌}
 use mathlib.Core.List.{List}
@@ -7,7 +8,7 @@ use Prim.Native.Nat.{ℕ, ◌+◌, ◌≤◌, ◌<◌}
 use native.Mathlib.Omega.{arith}
 use borrow.Author.Tests.{ltb-true, ltb-false, le-ltb, leb-true, leb-false, eqb-true, ne_eqb}
 use lib.Dec.{eqb, leb, ltb}
-use Rattle.meaning.specs.Base.{if◌then◌else◌, bit}
+use Rattle.meaning.specs.Base.{bit}
 use Rattle.meaning.specs.Reading.{bad, got, Parser, ◌>>=◌, pure, malformed, byte_within, byte}
 use Rattle.meaning.specs.Covers.{Source}
 use Rattle.meaning.specs.ByteLayouts.{column, source_of, source}

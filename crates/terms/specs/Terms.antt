@@ -1,6 +1,6 @@
 -- What the decoders of terms, queries and expressions answer.
-use Rattle.std.specs.Prelude.{Bool, true, false, ◌&&◌, ◌||◌, List, ℕ, eqb, ltb}
-use Rattle.meaning.specs.Base.{if◌then◌else◌, bit}
+use Rattle.std.specs.Prelude.{Bool, true, false, ◌&&◌, ◌||◌, List, ℕ, eqb, ltb, if◌then◌else◌}
+use Rattle.meaning.specs.Base.{bit}
 use Rattle.meaning.specs.Reading.{Read, bad, got}
 use Rattle.meaning.specs.Values.{signed}
 use Rattle.meaning.specs.Covers as Covers

@@ -1,6 +1,5 @@
 -- What printing the answer for an input leaves in all that it was lent.
-use Rattle.std.specs.Prelude.{◌≡◌, List, ℕ, ltb, length, take, drop}
-use Rattle.meaning.specs.Base.{if◌then◌else◌}
+use Rattle.std.specs.Prelude.{◌≡◌, List, ℕ, ltb, length, take, drop, if◌then◌else◌}
 use Rattle.meaning.specs.EntryPoints.{RunResult, run, result_of, refused, input_too_long, most_input, first_part, printed}
 use Rattle.lines.specs.Text.{Puts}
 

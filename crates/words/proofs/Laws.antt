@@ -1,5 +1,6 @@
 -- Laws of reading and writing bytes, for decoders. A parser of the specification gives the number that stands at a place where its
 -- bytes stand in the slice, and is bad where they do not; n of them are read one by one; what was written is read again.
+use Rattle.std.specs.Prelude.{if◌then◌else◌}
 use mathlib.Core.Path.{◌≡◌, refl, sym, ap, ◌∙◌}
 use mathlib.Core.Bool.{Bool, true, false, ◌&&◌}
 use mathlib.Core.List.{List, [], ◌∷◌}
@@ -11,7 +12,7 @@ use borrow.Author.Tests.{le-leb, lt-leb, ltb-true, ltb-false}
 use lib.Dec.{leb, ltb}
 use lib.ListN.{length, get_or, set, replicate, length-set, get_or-eq_default}
 use lib.Seq.{sets, get_or-set_same, get_or-set_other}
-use Rattle.meaning.specs.Base.{if◌then◌else◌, Each, no_element, an_element}
+use Rattle.meaning.specs.Base.{Each, no_element, an_element}
 use Rattle.meaning.specs.Reading.{Read, bad, got, Parser, on_from, byte_at, byte_within, byte, number16, number32, many}
 use Rattle.meaning.specs.ByteLayouts.{value}
 use Rattle.meaning.specs.Values.{signed}

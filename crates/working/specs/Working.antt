@@ -1,7 +1,7 @@
 -- What is worked out for rows, before one changes.
-use Rattle.std.specs.Prelude.{◌≡◌, Bool, true, false, List, [], ◌∷◌, map, ℕ, ◌+◌, ◌<◌, ℤ, get_or, set}
+use Rattle.std.specs.Prelude.{◌≡◌, Bool, true, false, List, [], ◌∷◌, map, ℕ, ◌+◌, ◌<◌, ℤ, get_or, set, if◌then◌else◌}
 use Rattle.std.proofs.Math.Option.{Option, none, some}
-use Rattle.meaning.specs.Base.{if◌then◌else◌, maybe, each_or}
+use Rattle.meaning.specs.Base.{maybe, each_or}
 use Rattle.meaning.specs.Covers.{Row, Expression}
 use Rattle.meaning.specs.Processing.Queries.{work_out_all}
 use Rattle.meaning.specs.Processing.Actions.{updated_row}

@@ -40,16 +40,16 @@ with_values-new-requires c =
 pub update_row-requires : goal.update_row-requires
 update_row-requires c =
     let fits : Fits c.with_values-new.result =
-        record {
-          handle = omega arith;
-          kind = omega arith;
-          mask = omega arith;
-          table = omega arith;
-          v0 = omega arith;
-          v1 = omega arith;
-          v2 = omega arith;
-          v3 = omega arith;
-        } in
+    record {
+      handle = omega arith;
+      kind = omega arith;
+      mask = omega arith;
+      table = omega arith;
+      v0 = omega arith;
+      v1 = omega arith;
+      v2 = omega arith;
+      v3 = omega arith;
+    } in
     record {
       laid = c.requires.running.represents.laid;
       sorted = live-sorted c.requires.running.reached c.requires.running.represents;
@@ -62,16 +62,16 @@ update_row-requires c =
 pub returns : goal.returns
 returns c =
     let fits : Fits c.with_values-new.result =
-        record {
-          handle = omega arith;
-          kind = omega arith;
-          mask = omega arith;
-          table = omega arith;
-          v0 = omega arith;
-          v1 = omega arith;
-          v2 = omega arith;
-          v3 = omega arith;
-        } in
+    record {
+      handle = omega arith;
+      kind = omega arith;
+      mask = omega arith;
+      table = omega arith;
+      v0 = omega arith;
+      v1 = omega arith;
+      v2 = omega arith;
+      v3 = omega arith;
+    } in
     updated-one c.requires.running c.args.handle (values_at c.args.log.now (ones c.args.mask) c.args.values) c.requires.mask_bound c.narrow.ensures
     (sym c.find-found.ensures ∙ c.in-At.is)
     (rw c.slot_at-old.ensures at c.with_values-new.ensures) fits

@@ -50,10 +50,10 @@ pub loop-j-preserved : goal.loop-j-preserved
 loop-j-preserved c =
     let reads = go-reads c.loop-j.invariant c.size-m.ensures c.loop-j-test.true in
     elim c.if-op-table.branch [
-      then-op-table+else-not-stays w ↦
+      | then-op-table+else-not-stays w ↦
           rw w.i-is
           (go_on c.loop-j.invariant reads c.slot_at-op.ensures w.place_from-i.ensures w.if-op-table.true (w.stays.ensures w.if-not-stays.false))
-    | else-op-table w ↦ rw w.i-is (go-other c.loop-j.invariant reads c.slot_at-op.ensures w.if-op-table.false)
+      | else-op-table w ↦ rw w.i-is (go-other c.loop-j.invariant reads c.slot_at-op.ensures w.if-op-table.false)
     ]
 
 pub returns : goal.returns

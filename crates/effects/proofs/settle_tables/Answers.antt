@@ -24,8 +24,8 @@ pub loop-k-preserved : goal.loop-k-preserved
 loop-k-preserved c =
     let within : c.loop-k.k < 16 = omega arith in
     elim c.if-tables-k-lt-INACTIVE.branch [
-      then-tables-k-lt-INACTIVE w ↦ rw w.room-is (turn-yes c.requires _ c.loop-k.invariant within (omega (arith, w.if-tables-k-lt-INACTIVE.true)) w.settle_table.ensures)
-    | else-tables-k-lt-INACTIVE w ↦ rw w.room-is (turn-no c.requires _ c.loop-k.invariant within w.if-tables-k-lt-INACTIVE.false)
+      | then-tables-k-lt-INACTIVE w ↦ rw w.room-is (turn-yes c.requires _ c.loop-k.invariant within (omega (arith, w.if-tables-k-lt-INACTIVE.true)) w.settle_table.ensures)
+      | else-tables-k-lt-INACTIVE w ↦ rw w.room-is (turn-no c.requires _ c.loop-k.invariant within w.if-tables-k-lt-INACTIVE.false)
     ]
 
 pub returns : goal.returns

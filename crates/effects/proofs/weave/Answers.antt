@@ -47,10 +47,10 @@ pub loop-j-preserved : goal.loop-j-preserved
 loop-j-preserved c =
     let loom = weave-loom c.requires.settles c.empty.ensures in
     elim c.if-table_at-wide.branch [
-      then-table_at-wide w ↦
+      | then-table_at-wide w ↦
           let own = sym c.table_at.ensures ∙ w.if-table_at-wide.true ∙ c.wide.ensures.0 in
           rw (w.room-is, w.i-is) (weave-own loom c.loop-j.invariant own w.weave_one-i.ensures)
-    | else-table_at-wide w ↦
+      | else-table_at-wide w ↦
           rw (w.room-is, w.i-is)
           (weave-other loom c.loop-j.invariant (weaving-reads loom c.loop-j.invariant c.size-m.ensures c.loop-j-test.true)
           (λ own. w.if-table_at-wide.false (c.table_at.ensures ∙ own ∙ sym c.wide.ensures.0)))

@@ -1,7 +1,7 @@
 -- What an operation of the log and an action of a rule do: all rows are chosen and all expressions worked out before a row changes; one
 -- that fails changes no row and ends the run.
-use Rattle.std.specs.Prelude.{List, [], ◌∷◌, ◌++◌, map, ℕ, suc, ◌+◌, ℤ, ltb, length}
-use Rattle.meaning.specs.Base.{if◌then◌else◌, maybe, bit, each_or}
+use Rattle.std.specs.Prelude.{List, [], ◌∷◌, ◌++◌, map, ℕ, suc, ◌+◌, ℤ, ltb, length, if◌then◌else◌}
+use Rattle.meaning.specs.Base.{maybe, bit, each_or}
 use Rattle.meaning.specs.Covers.{most_rows, last_handle, Row, Image, Query, Term, Action, LogOperation, Outcome, Reason}
 use Rattle.meaning.specs.Covers.{current, rollback, insert_row, insert_from_query, delete_rows, update_rows, insert, delete, update}
 use Rattle.meaning.specs.Covers.{rolled_back, failed, no_such_row, full, handles_used_up, sum_out_of_range}

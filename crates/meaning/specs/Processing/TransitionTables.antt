@@ -1,8 +1,8 @@
 -- What wakes a rule, and its transition tables: of what the rule is given, only rows of its own table, fixed at the consideration.
-use Rattle.std.specs.Prelude.{Bool, false, ◌&&◌, not, List, ℕ, eqb}
+use Rattle.std.specs.Prelude.{Bool, false, ◌&&◌, not, List, ℕ, eqb, if◌then◌else◌}
 use Rattle.std.proofs.Math.Option.{Option, none, some}
 use Rattle.std.specs.Int.Bits.{bit_and}
-use Rattle.meaning.specs.Base.{if◌then◌else◌, maybe, bit, gather}
+use Rattle.meaning.specs.Base.{maybe, bit, gather}
 use Rattle.meaning.specs.Covers.{Row, Rule}
 use Rattle.meaning.specs.RowOperations.{Effect, NetEffect, row_at}
 use Rattle.meaning.specs.RowOperations.{nothing, inserted, deleted, updated}

@@ -1,9 +1,9 @@
 -- Performs: what an operation of the log or an action of a rule makes where it does not fail.
-use Rattle.std.specs.Prelude.{◌≡◌, List, [], ◌∷◌, map, ℕ, ◌+◌, ◌%◌, ◌^◌, ℤ, pos, ◌+ℤ◌, length, get_or}
+use Rattle.std.specs.Prelude.{◌≡◌, List, [], ◌∷◌, map, ℕ, ◌+◌, ◌%◌, ◌^◌, ℤ, pos, ◌+ℤ◌, length, get_or, if◌then◌else◌}
 use Rattle.std.proofs.Math.Option.{some}
 use Rattle.std.specs.Int.Count.{ones}
 use Rattle.std.proofs.Math.ListN.{get_elem?}
-use Rattle.meaning.specs.Base.{if◌then◌else◌, bit, ◌∈◌}
+use Rattle.meaning.specs.Base.{bit, ◌∈◌}
 use Rattle.meaning.specs.Covers.{Row, Image, Rule, Expression, Action, LogOperation, Reason, insert, delete, update}
 use Rattle.meaning.specs.Covers.{fixed, column, sum, rollback, insert_row, insert_from_query, delete_rows, update_rows, rolled_back, failed}
 use Rattle.meaning.specs.RowOperations.{RowOperation, inserts, deletes, updates}
