@@ -6,12 +6,6 @@ use Rattle.processing.proofs.Going.{going_start, going-ready, going-quiet, going
 use Rattle.processing.proofs.Going.{going-active, going-back, going-fails, going_on}
 use Rattle.processing.proofs.steps.Goals as goal
 
--- ---- Nothing is triggered
-
--- ---- A rule is considered
-
--- ---- No consideration is left
-
 pub loop-b-init : goal.loop-b-init
 loop-b-init c = going_start _ c.requires.midway
 
