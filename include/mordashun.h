@@ -2,8 +2,8 @@
  * Mordashun: a small database with active rules, as a library for C99.
  *
  * One transaction at a time, an image, a rule book and a log come in; an outcome and an image come out. The
- * library is target/staticlib/libmordashun_c.a, which `rt staticlib mordashun_c` proves and writes for x86-64
- * Linux. It needs memcpy and memset and nothing else, allocates nothing, and keeps nothing between calls.
+ * library is crates/mordashun_c/out/libmordashun_c.a, which `rt lib` in crates/mordashun_c proves and writes for
+ * x86-64 Linux. It needs memcpy and memset and nothing else, allocates nothing, and keeps nothing between calls.
  *
  * That each function does what is said here is proved (crates/mordashun_c), of callers that keep these duties,
  * which nothing tests:

@@ -1,5 +1,5 @@
-//! Finds the static library: in the folder that MORDASHUN_LIB_DIR names, or where `rt staticlib mordashun_c`
-//! writes it.
+//! Finds the static library: in the folder that MORDASHUN_LIB_DIR names, or where `rt lib`
+//! writes it in crates/mordashun_c.
 use std::env;
 use std::path::{Path, PathBuf};
 use std::process::exit;
@@ -10,7 +10,7 @@ const LIBRARY: &str = "libmordashun_c.a";
 fn folder() -> PathBuf {
     match env::var_os(FOLDER) {
         Some(named) => PathBuf::from(named),
-        None => Path::new(env!("CARGO_MANIFEST_DIR")).join("../../target/staticlib"),
+        None => Path::new(env!("CARGO_MANIFEST_DIR")).join("../../crates/mordashun_c/out"),
     }
 }
 
@@ -30,8 +30,8 @@ fn main() {
     }
     if !library.is_file() {
         eprintln!("mordashun: there is no {LIBRARY} in {}.", folder.display());
-        eprintln!("Make it, in the repository's root:  rt staticlib mordashun_c");
-        eprintln!("Or name the folder that has it:     {FOLDER}=/that/folder cargo build");
+        eprintln!("Make it, in crates/mordashun_c:  rt lib");
+        eprintln!("Or name the folder that has it:  {FOLDER}=/that/folder cargo build");
         exit(1);
     }
     println!("cargo:rustc-link-search=native={}", folder.display());

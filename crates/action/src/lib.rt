@@ -1,12 +1,13 @@
 // What an operation of the log and an action of a rule do: all rows are chosen and all expressions worked
 // out before a row changes; one that fails changes no row.
 #![tactic(auto)]
+
 ghost use Rattle.std.specs.Prelude.{◌≡◌, [], ◌∷◌, ◌≤◌, length};
 ghost use Rattle.std.specs.Int.Count.{ones};
 ghost use Rattle.meaning.specs.Covers as Covers;
 ghost use Rattle.meaning.specs.Processing.Actions as Actions;
 ghost use Rattle.fields.specs.Fields.{values_at};
-ghost use Rattle.log.specs.Log.{operation_meant};
+ghost use Rattle.transaction_log.specs.Log.{operation_meant};
 ghost use Rattle.terms.specs.Terms.{terms_meant, query_meant};
 ghost use Rattle.book.specs.Books.{expressions_at, action_meant};
 ghost use Rattle.room.specs.Room.{transition_in};
@@ -16,7 +17,7 @@ ghost use Rattle.action.specs.Fit.{FitOperation, FitAction};
 
 use book::Action;
 use changes::{Reason, Step};
-use log::Operation;
+use transaction_log::Operation;
 use rows::Looked;
 use slots::Found;
 use terms::{Query, Terms};

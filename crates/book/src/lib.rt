@@ -1,5 +1,6 @@
 // The book: judged exactly, its rules and their actions decoded where they stand.
 #![tactic(auto)]
+
 ghost use Rattle.std.specs.Prelude.{◌≡◌, [], ◌^◌, ◌≤◌, ltb, length};
 ghost use Rattle.meaning.specs.Base.{if◌then◌else◌};
 ghost use Rattle.meaning.specs.Reading.{many, read_all};

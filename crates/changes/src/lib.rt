@@ -1,5 +1,6 @@
 // Row operations over all rows that an action chose or worked out, one after another.
 #![tactic(auto)]
+
 ghost use Rattle.std.specs.Prelude.{◌≡◌, ◌≤◌};
 ghost use Rattle.meaning.specs.Processing.Actions.{delete_all, insert_all};
 ghost use Rattle.meaning.specs.Made.{Taken};

@@ -5,6 +5,7 @@
 ghost use Rattle.std.specs.Prelude.{◌≡◌, length};
 
 use engine::{Checked, Refusal};
+use std::io;
 
 // The number of a refusal, as document 01 has it.
 fn refusal_number(r: Refusal) -> u64 {
@@ -18,66 +19,42 @@ fn refusal_number(r: Refusal) -> u64 {
     }
 }
 
-fn print_number(n: u64) {
-    io::write_all(1, b" ");
-    io::print_decimal(1, n);
-}
-
-fn print_byte(b: u8) {
-    print_number(b as u64);
-}
-
-fn end_line() {
-    io::write_all(1, b"\n");
-}
-
 // Each byte as a number, and the end of the line.
-fn print_bytes(bytes: &[u8]) {
-    let mut i = 0;
-    while i < bytes.len() {
-        print_byte(bytes[i]);
-        i += 1;
+fn print_bytes(rt: &impl Print, bytes: &[u8]) -> io::Result<()> {
+    for byte in bytes {
+        print!(rt; " {byte}")?;
     }
-    end_line();
+    println!(rt)
 }
 
-fn print_answer(answer: Checked) {
+fn print_answer(rt: &impl Print, answer: Checked) -> io::Result<()> {
     match answer {
-        Checked::Refused(r) => {
-            io::write_all(1, b" refused");
-            print_number(refusal_number(r));
-        }
-        Checked::Rules(n) => {
-            io::write_all(1, b" rules");
-            print_number(n as u64);
-        }
+        Checked::Refused(r) => println!(rt; " refused {}", refusal_number(r)),
+        Checked::Rules(n) => println!(rt; " rules {n}"),
     }
-    end_line();
 }
 
-fn print_rule(book: &[u8], k: usize) {
-    io::write_all(1, b"rule");
-    print_number(k as u64);
-    io::write_all(1, b":");
-    print_bytes(engine::rule(book, k));
+fn print_rule(rt: &impl Print, book: &[u8], k: usize) -> io::Result<()> {
+    print!(rt; "rule {k}:")?;
+    print_bytes(rt, engine::rule(book, k))
 }
 
-fn show(book: &[u8], out: &mut [u8]) {
+fn show(rt: &impl Print, book: &[u8], out: &mut [u8]) -> io::Result<()> {
     let answer = engine::check(book, out);
-    print_answer(answer);
-    io::write_all(1, b"output:");
-    print_bytes(out);
-    print_rule(book, 1);
-    print_rule(book, 2);
-    print_rule(book, 3);
+    print_answer(rt, answer)?;
+    print!(rt; "output:")?;
+    print_bytes(rt, out)?;
+    print_rule(rt, book, 1)?;
+    print_rule(rt, book, 2)?;
+    print_rule(rt, book, 3)
 }
 
 // The same without the book's last byte.
-fn show_cut(book: &[u8], out: &mut [u8]) {
+fn show_cut(rt: &impl Print, book: &[u8], out: &mut [u8]) -> io::Result<()> {
     if book.len() == 0 {
-        return;
+        return Ok(());
     }
-    show(&book[0..book.len() - 1], out);
+    show(rt, &book[0..book.len() - 1], out)
 }
 
 // Three rules, of which rule 2 precedes those of a mask.
@@ -91,49 +68,49 @@ fn three(mask: u8) -> [u8; 35]
 }
 
 // 2 precedes 0.
-fn case_e() {
+fn case_e(rt: &impl Print) -> io::Result<()> {
     let book = three(1);
     let mut out = [99u8; 16];
-    io::write_all(1, b"E");
-    show(&book, &mut out);
+    print!(rt; "E")?;
+    show(rt, &book, &mut out)
 }
 
 // 2 precedes 1.
-fn case_f() {
+fn case_f(rt: &impl Print) -> io::Result<()> {
     let book = three(2);
     let mut out = [99u8; 16];
-    io::write_all(1, b"F");
-    show(&book, &mut out);
+    print!(rt; "F")?;
+    show(rt, &book, &mut out)
 }
 
 // 0 precedes 1 and 1 precedes 0.
-fn case_g() {
+fn case_g(rt: &impl Print) -> io::Result<()> {
     let book = [
         0u8, 0, 0, 22, 1, 0, 100, 2, 1, 0, 1, 0, 0, 2, 0, 1, 0, 1, 0, 1, 0, 0, 1, 0, 1, 0,
     ];
     let mut out = [99u8; 16];
-    io::write_all(1, b"G");
-    show(&book, &mut out);
+    print!(rt; "G")?;
+    show(rt, &book, &mut out)
 }
 
-fn last_byte_cut_off() {
+fn last_byte_cut_off(rt: &impl Print) -> io::Result<()> {
     let book = three(1);
     let mut out = [99u8; 16];
-    io::write_all(1, b"E, last byte cut off");
-    show_cut(&book, &mut out);
+    print!(rt; "E, last byte cut off")?;
+    show_cut(rt, &book, &mut out)
 }
 
-fn output_of_15() {
+fn output_of_15(rt: &impl Print) -> io::Result<()> {
     let book = three(1);
     let mut out = [99u8; 15];
-    io::write_all(1, b"E, output of 15 bytes");
-    show(&book, &mut out);
+    print!(rt; "E, output of 15 bytes")?;
+    show(rt, &book, &mut out)
 }
 
-fn main() {
-    case_e();
-    case_f();
-    case_g();
-    last_byte_cut_off();
-    output_of_15();
+fn main(rt: HostRuntime) -> io::Result<()> {
+    case_e(&rt)?;
+    case_f(&rt)?;
+    case_g(&rt)?;
+    last_byte_cut_off(&rt)?;
+    output_of_15(&rt)
 }

@@ -1,6 +1,7 @@
 // A consideration: what waited for the rule becomes its transition tables, and is emptied; if its condition
 // holds, its actions run.
 #![tactic(auto)]
+
 ghost use Rattle.std.specs.Prelude.{◌≡◌, ◌≤◌, ◌<◌, get_or};
 ghost use Rattle.meaning.specs.Processing as Processing;
 ghost use Rattle.book.specs.Books.{condition_meant};

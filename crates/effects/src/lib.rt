@@ -1,6 +1,7 @@
 // What waits for the rules: net effects kept by rising handle, joined through one constant table of kinds. An operation joins
 // what was done since the last joining, and all of that joins what waits for each rule in one pass; and whether it triggers a rule.
 #![tactic(auto)]
+
 ghost use Rattle.std.specs.Prelude.{◌≡◌, true, ◌++◌, ◌+◌, ◌-◌, ◌≤◌, ◌<◌, length};
 ghost use Rattle.std.specs.Int.Bits.{bit_or};
 ghost use Rattle.std.proofs.Math.Seq.{slice};

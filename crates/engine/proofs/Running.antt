@@ -20,9 +20,9 @@ use Rattle.image.specs.Images.{image_or}
 use Rattle.image.specs.declared.ImageRead.{ImageRead}
 use Rattle.image.specs.declared.ImageRead.TheVariants as image_read
 use Rattle.book.specs.Books as Books
-use Rattle.log.specs.Log.{log_or}
-use Rattle.log.specs.declared.LogRead.{LogRead}
-use Rattle.log.specs.declared.LogRead.TheVariants as log_read
+use Rattle.transaction_log.specs.Log.{log_or}
+use Rattle.transaction_log.specs.declared.LogRead.{LogRead}
+use Rattle.transaction_log.specs.declared.LogRead.TheVariants as log_read
 use Rattle.plan.specs.Plans.{Planned}
 use Rattle.plan.specs.declared.Plan.{Plan}
 use Rattle.trigger.specs.Triggers.{order_in}

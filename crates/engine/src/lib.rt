@@ -1,13 +1,14 @@
 // The entry points. Each judges what it is given for itself and ends: none has a `requires`. A refused call
 // changes nothing that it was lent.
 #![tactic(auto)]
+
 ghost use Rattle.std.specs.Prelude.{◌≡◌, ◌≤◌, length, take};
 ghost use Rattle.meaning.specs.Base.{in_front_of};
 ghost use Rattle.engine.specs.Answers.{Checks, Gives, Runs};
 
 use book::BookRead;
 use image::ImageRead;
-use log::LogRead;
+use transaction_log::LogRead;
 use processing::Outcome;
 use transaction::ReadOff;
 
@@ -72,7 +73,7 @@ pub fn run(image: &[u8], book: &[u8], log: &[u8], out: &mut [u8], room: &mut [u8
                 if !order.found {
                     return Answer::Refused(Refusal::Cycle);
                 }
-                match log::judge(log) {
+                match transaction_log::judge(log) {
                     LogRead::Is { count: operations } => {
                         let a = ReadOff {
                             next,

@@ -1,5 +1,6 @@
 // What image, book and log share: the frame around their fields, and values in a row.
 #![tactic(auto)]
+
 ghost use Rattle.std.specs.Prelude.{◌≡◌, ◌≤◌};
 ghost use Rattle.meaning.specs.Reading.{many};
 ghost use Rattle.meaning.specs.ByteLayouts.{value};

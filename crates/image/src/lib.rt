@@ -1,5 +1,6 @@
 // The image: judged exactly, its rows read, and its head and its rows as bytes.
 #![tactic(auto)]
+
 ghost use Rattle.std.specs.Prelude.{◌≡◌, ◌+◌, ◌*◌, ◌≤◌, ◌<◌, length};
 ghost use Rattle.meaning.specs.Base.{in_front_of};
 ghost use Rattle.meaning.specs.Reading.{many, read_all};

@@ -1,5 +1,6 @@
 // The working room at the start of a run: every table empty but the live rows, which are the start image's.
 #![tactic(auto)]
+
 ghost use Rattle.std.specs.Prelude.{◌+◌, ◌≤◌, ◌<◌, length};
 ghost use Rattle.words.specs.Words.{low32_at};
 ghost use Rattle.slots.specs.Slots.{Stands};

@@ -1,6 +1,7 @@
 // The total order of a book's rules: repeatedly the lowest-numbered rule not yet taken all of whose
 // predecessors are taken. Masks and taken rules are arrays by value while the order is built.
 #![tactic(auto)]
+
 ghost use Rattle.std.specs.Prelude.{◌≡◌, ◌≤◌, ◌<◌, take};
 ghost use Rattle.meaning.specs.Base.{first_with, up_from};
 ghost use Rattle.meaning.specs.Processing.TotalOrder.{order_of};

@@ -1,5 +1,6 @@
 // An image at the front of the output: from the live rows, or byte for byte.
 #![tactic(auto)]
+
 ghost use Rattle.std.specs.Prelude.{◌≡◌, ◌+◌, ◌≤◌, ◌<◌, length};
 ghost use Rattle.meaning.specs.Base.{in_front_of};
 ghost use Rattle.words.specs.Words.{low32_at};

@@ -1,6 +1,7 @@
 // What is read off a well-formed book once: where its rules stand, the own table of each active one, what each looks out for, and their
 // total order.
 #![tactic(auto)]
+
 ghost use Rattle.std.specs.Prelude.{◌≡◌, ◌≤◌, length};
 ghost use Rattle.meaning.specs.Reading.{got, many};
 ghost use Rattle.meaning.specs.ByteLayouts as ByteLayouts;

@@ -1,6 +1,7 @@
 // Processing: the log, then considerations of triggered rules until none is triggered, the limit is reached,
 // or the run ends.
 #![tactic(auto)]
+
 ghost use Rattle.std.specs.Prelude.{◌≡◌, ◌+◌, ◌≤◌, ◌<◌};
 ghost use Rattle.plan.specs.Plans.{rules_in, Planned};
 ghost use Rattle.trigger.specs.Triggers.{Numbers};

@@ -1,6 +1,7 @@
 // Queries: the rows that a source shows, the terms that hold of a row, and the rows that an action chooses.
 // Terms are asked one after another, each of the rows that are left; a match reads the columns of its source once.
 #![tactic(auto)]
+
 ghost use Rattle.std.specs.Prelude.{◌≡◌, ◌&&◌, ◌≤◌, ◌<◌, length, get_or};
 ghost use Rattle.meaning.specs.Base.{select, some_in};
 ghost use Rattle.meaning.specs.Values.{signed, compare as values_compare};

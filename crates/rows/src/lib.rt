@@ -1,6 +1,7 @@
 // The live rows, and the row operations on them: each is made on the rows and joins what was done since the
 // last joining.
 #![tactic(auto)]
+
 ghost use Rattle.std.specs.Prelude.{◌≡◌, ◌≤◌, ◌<◌, length};
 ghost use Rattle.words.specs.Words.{low32_at};
 ghost use Rattle.slots.specs.Slots.{table_at, Sorted, find_in};

@@ -10,10 +10,10 @@ use Rattle.meaning.specs.ByteLayouts as ByteLayouts
 use Rattle.meaning.specs.ByteLayouts.{terms, query, operation, action}
 use Rattle.meaning.proofs.RunsFit.{Gives, bind-gives, past-gives, pure-gives, malformed-gives, if-gives, many-gives, mask-gives}
 use Rattle.meaning.proofs.RunsFit.{values-give, table-gives, expression-gives}
-use Rattle.log.specs.declared.Operation.{Operation}
-use Rattle.log.specs.declared.OperationRead.{OperationRead}
-use Rattle.log.specs.declared.OperationRead.TheVariants as operation_read
-use Rattle.log.specs.Log.{operation_meant, operation_or}
+use Rattle.transaction_log.specs.declared.Operation.{Operation}
+use Rattle.transaction_log.specs.declared.OperationRead.{OperationRead}
+use Rattle.transaction_log.specs.declared.OperationRead.TheVariants as operation_read
+use Rattle.transaction_log.specs.Log.{operation_meant, operation_or}
 use Rattle.book.specs.declared.Action as book
 use Rattle.book.specs.declared.ActionRead.{ActionRead}
 use Rattle.book.specs.declared.ActionRead.TheVariants as action_read

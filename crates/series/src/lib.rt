@@ -1,5 +1,6 @@
 // The operations of the log, and the actions of a rule, run in order; the first that ends the run ends them.
 #![tactic(auto)]
+
 ghost use Rattle.meaning.specs.ByteLayouts.{operation};
 ghost use Rattle.meaning.specs.Processing.{run_log, run_actions};
 ghost use Rattle.words.specs.Words.{readable};
@@ -10,7 +11,7 @@ ghost use Rattle.changes.specs.Steps.{Acts};
 
 use book::{ActionRead, Actions};
 use changes::Step;
-use log::OperationRead;
+use transaction_log::OperationRead;
 
 // The first `count` operations of a log.
 pub fn run_log(room: &mut [u8], log: &[u8], count: usize) -> Step
@@ -18,9 +19,9 @@ pub fn run_log(room: &mut [u8], log: &[u8], count: usize) -> Step
     ensures { Acts room.old room.new (run_log (readable count operation log.now 7)) result }
 {
     let mut left = count;
-    let mut here = log::FIRST;
+    let mut here = transaction_log::FIRST;
     while 0 < left {
-        match log::operation_at(log, here) {
+        match transaction_log::operation_at(log, here) {
             OperationRead::Is { operation, next } => {
                 match action::operate(room, log, operation) {
                     Step::Went => {}

@@ -2,6 +2,7 @@
 // Only these functions look at the room's bytes; everything above speaks of the lists that the tables
 // hold, and of frames that say what stays.
 #![tactic(auto)]
+
 ghost use Rattle.std.specs.Prelude.{◌≡◌, [], ◌++◌, ◌∷◌, ◌+◌, ◌*◌, ◌/◌, ◌%◌, ◌≤◌, ◌<◌, length, get_or, set, take, drop, replicate};
 ghost use Rattle.words.specs.Words.{low32_at};
 ghost use Rattle.slots.specs.Slots.{slot_at, table_at, table_bytes, slot_value, with_value, with_kind, with_marks, Stands, Holds};

@@ -1,6 +1,7 @@
 // Terms, queries and expressions of a rule, decoded from the book where they stand. Judging a book and
 // evaluating it later read through the same functions.
 #![tactic(auto)]
+
 ghost use Rattle.std.specs.Prelude.{◌≡◌};
 ghost use Rattle.meaning.specs.Reading.{many};
 ghost use Rattle.meaning.specs.ByteLayouts as ByteLayouts;

@@ -1,5 +1,6 @@
 // An accepted run, from the start image to the image that is handed back.
 #![tactic(auto)]
+
 ghost use Rattle.std.specs.Prelude.{◌≡◌, ◌≤◌, length};
 ghost use Rattle.meaning.specs.Base.{in_front_of};
 ghost use Rattle.slots.specs.Slots.{Stands};

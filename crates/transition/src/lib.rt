@@ -1,6 +1,7 @@
 // The transition tables of a consideration: the rule's own table, its columns, whole rows, values as of
 // then; and what waited for the rule is emptied, whatever its condition will say.
 #![tactic(auto)]
+
 ghost use Rattle.std.specs.Prelude.{◌≡◌, ◌≤◌, ◌<◌, length};
 ghost use Rattle.meaning.specs.Processing.TransitionTables.{live_row};
 ghost use Rattle.words.specs.Words.{low32_at};

@@ -1,5 +1,6 @@
 // Whether a rule is triggered by what waits for it, and the first triggered rule in total order.
 #![tactic(auto)]
+
 ghost use Rattle.std.specs.Prelude.{◌≡◌, ◌≤◌, ◌<◌};
 ghost use Rattle.room.specs.Room.{Laid};
 ghost use Rattle.plan.specs.Plans.{Planned};

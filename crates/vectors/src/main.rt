@@ -1,48 +1,58 @@
 // Runs cases M, N and O and the inputs of an independent implementation: for each file that an argument names
 // it prints the name and what the program says of the file's bytes. What must be printed stands in `stdout`.
 #![tactic(auto)]
-use libc::STDOUT_FILENO;
+ghost use Rattle.std.specs.Io.{ReadsAtMost};
+
+use std::io::{Read, Write};
+use std::rt::{Env, Files};
+use std::{env, fs, io};
 
 // A byte more than an input may have, so that a longer one shows.
 const INPUT: usize = 16385;
 
-fn print_answer(input: &[u8]) {
+// Reads until the bytes that are lent are full or the file ends, and answers how many it read.
+fn fill(from: &mut impl Read, to: &mut [u8]) -> io::Result<usize>
+    ensures { ReadsAtMost result to.new }
+{
+    let mut done = 0;
+    while done < to.len() {
+        let n = from.read(&mut to[done..])?;
+        if n == 0 {
+            break;
+        }
+        done += n;
+    }
+    Ok(done)
+}
+
+fn print_answer(rt: &impl Print, input: &[u8]) -> io::Result<()> {
     let mut image = [0u8; 1355];
     let mut room = [0u8; 65536];
     let mut out = [0u8; lines::TEXT];
     let end = text::text(input, &mut image, &mut room, &mut out);
-    io::write_all(STDOUT_FILENO, &out[..end]);
+    io::writer(rt).write_all(&out[..end])
 }
 
-fn print_answer_on(fd: i32) {
+fn print_answer_on(rt: &impl Print, file: &mut impl Read) -> io::Result<()> {
     let mut input = [0u8; INPUT];
-    let n = io::read_full(fd, &mut input);
-    print_answer(&input[..n]);
+    let n = fill(file, &mut input)?;
+    print_answer(rt, &input[..n])
 }
 
-fn run_file(path: &[u8]) {
-    let fd = os::open_read(path);
-    if fd < 0 {
-        os::fail(path);
-        return;
+// A file that cannot be opened is named on standard error, and the others still run.
+fn run_file(rt: &(impl Files + Print + Eprint), path: &str) -> io::Result<()> {
+    match fs::open(rt, path) {
+        Ok(mut file) => {
+            println!(rt; "{path}")?;
+            print_answer_on(rt, &mut file)
+        }
+        Err(e) => eprintln!(rt; "{path}: {e}"),
     }
-    io::write_all(STDOUT_FILENO, path);
-    io::write_all(STDOUT_FILENO, &[b'\n']);
-    print_answer_on(fd);
-    libc::close(fd);
 }
 
-fn run_argument(i: usize) {
-    let mut path = io::buffer();
-    let length = os::arg(i, &mut path);
-    run_file(&path[..length]);
-}
-
-fn main() {
-    let count = os::arg_count();
-    let mut i: usize = 1;
-    while i < count {
-        run_argument(i);
-        i += 1;
+fn main(rt: HostRuntime) -> io::Result<()> {
+    for path in env::args(&rt)?.skip(1) {
+        run_file(&rt, path.as_str())?;
     }
+    Ok(())
 }

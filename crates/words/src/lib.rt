@@ -2,6 +2,7 @@
 // It stands on no other code; every decoder and every evaluator reads through it. Contracts speak of
 // the specification's numbers: bytes and words of a list, values as integers.
 #![tactic(auto)]
+
 ghost use Rattle.std.specs.Prelude.{not, ◌≡◌, ◌+◌, ◌*◌, ◌/◌, ◌%◌, ◌^◌, ◌≤◌, ◌<◌, eqb, leb, length};
 ghost use Rattle.std.specs.Int.Bits.{bit_and};
 ghost use Rattle.std.proofs.lemmas.List.Edits.{sets};

@@ -1,6 +1,7 @@
 // What is worked out for rows before one changes: the values of expressions over the chosen rows, and
 // values that stand in the log or the book.
 #![tactic(auto)]
+
 ghost use Rattle.std.specs.Prelude.{◌≡◌, ◌≤◌, ◌<◌, get_or};
 ghost use Rattle.std.specs.Int.Count.{ones};
 ghost use Rattle.meaning.specs.Reading.{many};

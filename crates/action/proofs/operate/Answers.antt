@@ -1,5 +1,5 @@
 -- `action::operate` meets its contract: each operation of the log is done by the function for it.
-use Rattle.log.specs.Log.{operation_meant}
+use Rattle.transaction_log.specs.Log.{operation_meant}
 use Rattle.meaning.specs.Processing.Actions as Actions
 use Rattle.action.proofs.Fitting.{insert-fits, update-fits}
 use Rattle.action.proofs.operate.Goals as goal

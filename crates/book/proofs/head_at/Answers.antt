@@ -17,53 +17,54 @@ use Rattle.book.proofs.head_at.Goals as goal
 
 pub returns-then-active-gt1 : goal.returns-then-active-gt1
 unfolding head_then head_end rule
-returns-then-active-gt1 c = (rw (looked-above c.byte-active.ensures 0 1 c.if-active-gt1.true), omega arith)
+returns-then-active-gt1 c = record {
+      result_value = rw (looked-above c.byte-active.ensures 0 1 c.if-active-gt1.true);
+      result_in_bounds = omega arith;
+    }
 
 pub returns-then-table-gt3 : goal.returns-then-table-gt3
 unfolding head_then head_end rule
-returns-then-table-gt3 c =
-    (
-      rw (looked-within c.byte-active.ensures 0 1 (search rules) c.if-active-gt1.false)
-          (rw (table-wrong c.byte-table.ensures c.if-table-gt3.true)),
-      omega arith,
-    )
+returns-then-table-gt3 c = record {
+      result_value = rw (looked-within c.byte-active.ensures 0 1 (search rules) c.if-active-gt1.false)
+      (rw (table-wrong c.byte-table.ensures c.if-table-gt3.true));
+      result_in_bounds = omega arith;
+    }
 
 pub returns-then-triggers-lt1 : goal.returns-then-triggers-lt1
 unfolding head_then head_end rule
 returns-then-triggers-lt1 c =
     let wrong : byte_within 1 7 c.args.s.now (c.args.at + 1 + 1) ≡ bad =
-    ⊎_elim (λ low. looked-below c.byte-triggers.ensures 1 7 low.taken)
-    (λ high. looked-above c.byte-triggers.ensures 1 7 (ltb-true 7 c.byte-triggers.result high.1.taken))
-    c.then-triggers-lt1.branch
-    in (
-      rw (looked-within c.byte-active.ensures 0 1 (search rules) c.if-active-gt1.false)
-          (rw (table-looked c.byte-table.ensures c.if-table-gt3.false, wrong)),
-      omega arith,
-    )
+    ⊎_elim (λ low. looked-below c.byte-triggers.ensures 1 7 low)
+    (λ high. looked-above c.byte-triggers.ensures 1 7 high.1)
+    c.then-triggers-lt1.either
+    in record {
+      result_value = rw (looked-within c.byte-active.ensures 0 1 (search rules) c.if-active-gt1.false)
+          (rw (table-looked c.byte-table.ensures c.if-table-gt3.false, wrong));
+      result_in_bounds = omega arith;
+    }
 
 pub returns-then-not-columns_fit : goal.returns-then-not-columns_fit
 unfolding head_then head_end rule
-returns-then-not-columns_fit c =
-    (
-      rw (looked-within c.byte-active.ensures 0 1 (search rules) c.if-active-gt1.false)
-          (rw (table-looked c.byte-table.ensures c.if-table-gt3.false)
-          (rw (looked-within c.byte-triggers.ensures 1 7 c.if-triggers-lt1.false (ltb-false 7 c.byte-triggers.result c.if-triggers-gt7.false))
-          (rw (columns-refused c.byte-triggers.result _ c.columns_fit.ensures c.byte-columns.ensures c.if-not-columns_fit.true)))),
-      omega arith,
-    )
+returns-then-not-columns_fit c = record {
+      result_value = rw (looked-within c.byte-active.ensures 0 1 (search rules) c.if-active-gt1.false)
+      (rw (table-looked c.byte-table.ensures c.if-table-gt3.false)
+      (rw (looked-within c.byte-triggers.ensures 1 7 c.if-triggers-lt1.false c.if-triggers-gt7.false)
+      (rw (columns-refused c.byte-triggers.result _ c.columns_fit.ensures c.byte-columns.ensures c.if-not-columns_fit.true))));
+      result_in_bounds = omega arith;
+    }
 
 pub returns-then-not-has : goal.returns-then-not-has
 unfolding head_then head_end rule
 returns-then-not-has c =
     let bytes : Bytes c.args.s.now = λ i. (c.type_inv.s i).fits in
-    let gone = stands-not c.args.s.now (c.args.at + 1 + 1 + 1 + 1 + 2) c.has.ensures c.if-not-has.true in (
-      rw (looked-within c.byte-active.ensures 0 1 (search rules) c.if-active-gt1.false)
+    let gone = stands-not c.args.s.now (c.args.at + 1 + 1 + 1 + 1 + 2) c.has.ensures c.if-not-has.true in record {
+      result_value = rw (looked-within c.byte-active.ensures 0 1 (search rules) c.if-active-gt1.false)
           (rw (table-looked c.byte-table.ensures c.if-table-gt3.false)
-          (rw (looked-within c.byte-triggers.ensures 1 7 c.if-triggers-lt1.false (ltb-false 7 c.byte-triggers.result c.if-triggers-gt7.false))
+          (rw (looked-within c.byte-triggers.ensures 1 7 c.if-triggers-lt1.false c.if-triggers-gt7.false)
           (rw (columns-admitted c.byte-triggers.result _ c.columns_fit.ensures c.byte-columns.ensures c.if-not-columns_fit.false)
-          (rw (number16-short c.args.s.now bytes (c.args.at + 1 + 1 + 1 + 1) gone))))),
-      omega arith,
-    )
+          (rw (number16-short c.args.s.now bytes (c.args.at + 1 + 1 + 1 + 1) gone)))));
+      result_in_bounds = omega arith;
+    }
 
 pub word16-precedes-requires : goal.word16-precedes-requires
 word16-precedes-requires c =
@@ -73,28 +74,26 @@ pub returns-then-not-names_rules : goal.returns-then-not-names_rules
 unfolding head_then head_end rule
 returns-then-not-names_rules c =
     let bytes : Bytes c.args.s.now = λ i. (c.type_inv.s i).fits in
-    let here = stands c.args.s.now (c.args.at + 1 + 1 + 1 + 1 + 2) c.has.ensures c.if-not-has.false in
-    (
-      rw (looked-within c.byte-active.ensures 0 1 (search rules) c.if-active-gt1.false)
+    let here = stands c.args.s.now (c.args.at + 1 + 1 + 1 + 1 + 2) c.has.ensures c.if-not-has.false in record {
+      result_value = rw (looked-within c.byte-active.ensures 0 1 (search rules) c.if-active-gt1.false)
           (rw (table-looked c.byte-table.ensures c.if-table-gt3.false)
-          (rw (looked-within c.byte-triggers.ensures 1 7 c.if-triggers-lt1.false (ltb-false 7 c.byte-triggers.result c.if-triggers-gt7.false))
+          (rw (looked-within c.byte-triggers.ensures 1 7 c.if-triggers-lt1.false c.if-triggers-gt7.false)
           (rw (columns-admitted c.byte-triggers.result _ c.columns_fit.ensures c.byte-columns.ensures c.if-not-columns_fit.false)
           (rw (number16-read c.args.s.now bytes (c.args.at + 1 + 1 + 1 + 1) here, ← c.word16-precedes.ensures.0)
-          (rw (failed c.names_rules.ensures c.if-not-names_rules.true)))))),
-      omega arith,
-    )
+          (rw (failed c.names_rules.ensures c.if-not-names_rules.true))))));
+      result_in_bounds = omega arith;
+    }
 
 pub returns : goal.returns
 unfolding head_then head_end rule_of rule
 returns c =
     let bytes : Bytes c.args.s.now = λ i. (c.type_inv.s i).fits in
-    let here = stands c.args.s.now (c.args.at + 1 + 1 + 1 + 1 + 2) c.has.ensures c.if-not-has.false in
-    (
-      rw (looked-within c.byte-active.ensures 0 1 (search rules) c.if-active-gt1.false)
+    let here = stands c.args.s.now (c.args.at + 1 + 1 + 1 + 1 + 2) c.has.ensures c.if-not-has.false in record {
+      result_value = rw (looked-within c.byte-active.ensures 0 1 (search rules) c.if-active-gt1.false)
           (rw (table-looked c.byte-table.ensures c.if-table-gt3.false)
-          (rw (looked-within c.byte-triggers.ensures 1 7 c.if-triggers-lt1.false (ltb-false 7 c.byte-triggers.result c.if-triggers-gt7.false))
+          (rw (looked-within c.byte-triggers.ensures 1 7 c.if-triggers-lt1.false c.if-triggers-gt7.false)
           (rw (columns-admitted c.byte-triggers.result _ c.columns_fit.ensures c.byte-columns.ensures c.if-not-columns_fit.false)
           (rw (number16-read c.args.s.now bytes (c.args.at + 1 + 1 + 1 + 1) here, ← c.word16-precedes.ensures.0)
-          (rw (passed c.names_rules.ensures c.if-not-names_rules.false)))))),
-      omega arith,
-    )
+          (rw (passed c.names_rules.ensures c.if-not-names_rules.false))))));
+      result_in_bounds = omega arith;
+    }

@@ -21,13 +21,11 @@ slot_at-e-requires c =
 
 pub delete_row-requires : goal.delete_row-requires
 delete_row-requires c =
-    let now = taking-running c.requires.running c.loop-i.invariant in (
-      now.represents.laid,
-      (
-        live-sorted now.reached now.represents,
-        deleting-can c.requires.running c.size-n.ensures c.loop-i.invariant c.loop-i-test.true c.slot_at-e.ensures,
-      ),
-    )
+    let now = taking-running c.requires.running c.loop-i.invariant in record {
+      laid = now.represents.laid;
+      sorted = live-sorted now.reached now.represents;
+      can_join = deleting-can c.requires.running c.size-n.ensures c.loop-i.invariant c.loop-i-test.true c.slot_at-e.ensures;
+    }
 
 pub loop-i-preserved : goal.loop-i-preserved
 loop-i-preserved c =

@@ -41,13 +41,11 @@ narrow-requires c = tt
 
 pub insert_row-requires : goal.insert_row-requires
 insert_row-requires c =
-    let space = sym c.space_for.ensures ∙ c.in-Enough.is in (
-      inserting-room c.requires.running c.requires.table_bound c.size-n.ensures space c.loop-left.invariant c.loop-left-test.true c.slot_at-e.ensures c.narrow.ensures,
-      (
-        inserting-handles c.requires.running c.requires.table_bound c.size-n.ensures space c.loop-left.invariant c.loop-left-test.true c.slot_at-e.ensures c.narrow.ensures,
-        inserting-joinable c.requires.running c.requires.table_bound c.size-n.ensures space c.loop-left.invariant c.loop-left-test.true c.slot_at-e.ensures c.narrow.ensures,
-      ),
-    )
+    let space = sym c.space_for.ensures ∙ c.in-Enough.is in record {
+      room_len_bound = inserting-room c.requires.running c.requires.table_bound c.size-n.ensures space c.loop-left.invariant c.loop-left-test.true c.slot_at-e.ensures c.narrow.ensures;
+      room_bound = inserting-handles c.requires.running c.requires.table_bound c.size-n.ensures space c.loop-left.invariant c.loop-left-test.true c.slot_at-e.ensures c.narrow.ensures;
+      joinable = inserting-joinable c.requires.running c.requires.table_bound c.size-n.ensures space c.loop-left.invariant c.loop-left-test.true c.slot_at-e.ensures c.narrow.ensures;
+    }
 
 pub loop-left-preserved : goal.loop-left-preserved
 loop-left-preserved c =

@@ -30,13 +30,11 @@ narrow-requires c = tt
 
 pub update_row-requires : goal.update_row-requires
 update_row-requires c =
-    let now = updating-running c.requires.running c.requires.mask_bound c.requires.rewritten c.size-n.ensures c.loop-left.invariant in (
-      now.represents.laid,
-      (
-        live-sorted now.reached now.represents,
-        updating-can c.requires.running c.requires.mask_bound c.requires.rewritten c.size-n.ensures c.loop-left.invariant c.loop-left-test.true c.slot_at-e.ensures c.narrow.ensures,
-      ),
-    )
+    let now = updating-running c.requires.running c.requires.mask_bound c.requires.rewritten c.size-n.ensures c.loop-left.invariant in record {
+      laid = now.represents.laid;
+      sorted = live-sorted now.reached now.represents;
+      can_join = updating-can c.requires.running c.requires.mask_bound c.requires.rewritten c.size-n.ensures c.loop-left.invariant c.loop-left-test.true c.slot_at-e.ensures c.narrow.ensures;
+    }
 
 pub loop-left-preserved : goal.loop-left-preserved
 loop-left-preserved c =

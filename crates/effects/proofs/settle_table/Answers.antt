@@ -1,12 +1,11 @@
 -- `effects::settle_table` meets its contract: before each turn nothing has changed, and what is left of the stretch has the same to join as
 -- all of it; at the first change both are woven from there on.
-use mathlib.Core.Logic.{⊎_elim}
 use Prim.Native.Nat.{◌-◌}
 use native.Mathlib.Omega.{arith}
-use borrow.Author.Tests.{not-false}
 use Rattle.slots.specs.Slots.{table_bytes}
 use Rattle.effects.proofs.SpareTable.{go-start, go-ready, go-reads, go-other, go-low, go_on, go-weaves, go-woven, go-done}
 use Rattle.effects.proofs.settle_table.Goals as goal
+use Rattle.effects.proofs.settle_table.Goals.{then-op-table+else-not-stays, else-op-table}
 
 pub size-m-requires : goal.size-m-requires
 unfolding table_bytes
@@ -50,12 +49,12 @@ returns-then-not-stays c =
 pub loop-j-preserved : goal.loop-j-preserved
 loop-j-preserved c =
     let reads = go-reads c.loop-j.invariant c.size-m.ensures c.loop-j-test.true in
-    ⊎_elim
-    (λ q.
-    rw q.6
-    (go_on c.loop-j.invariant reads c.slot_at-op.ensures q.2.ensures q.0.taken (q.4.ensures (not-false q.4.result q.5.left))))
-    (λ q. rw q.1 (go-other c.loop-j.invariant reads c.slot_at-op.ensures q.0.left))
-    c.if-op-table.branch
+    elim c.if-op-table.branch [
+      then-op-table+else-not-stays w ↦
+          rw w.i-is
+          (go_on c.loop-j.invariant reads c.slot_at-op.ensures w.place_from-i.ensures w.if-op-table.true (w.stays.ensures w.if-not-stays.false))
+    | else-op-table w ↦ rw w.i-is (go-other c.loop-j.invariant reads c.slot_at-op.ensures w.if-op-table.false)
+    ]
 
 pub returns : goal.returns
 returns c =

@@ -1,10 +1,10 @@
 -- `effects::settle_tables` meets its contract: before turn `k` what waits for the active rules below `k` is settled, and the others' tables
 -- are as they were.
-use mathlib.Core.Logic.{⊎_elim}
 use Prim.Native.Nat.{◌-◌, ◌<◌}
 use native.Mathlib.Omega.{arith}
 use Rattle.effects.proofs.AllTables.{upto-start, next-settles, next_fits_lem, turn-yes, turn-no, upto-ended, upto_done}
 use Rattle.effects.proofs.settle_tables.Goals as goal
+use Rattle.effects.proofs.settle_tables.Goals.{then-tables-k-lt-INACTIVE, else-tables-k-lt-INACTIVE}
 
 pub loop-k-init : goal.loop-k-init
 loop-k-init c = upto-start c.requires
@@ -23,10 +23,10 @@ settle_table-requires c =
 pub loop-k-preserved : goal.loop-k-preserved
 loop-k-preserved c =
     let within : c.loop-k.k < 16 = omega arith in
-    ⊎_elim
-    (λ w. rw w.5 (turn-yes c.requires _ c.loop-k.invariant within (omega (arith, w.0.taken)) w.2.ensures))
-    (λ w. rw w.1 (turn-no c.requires _ c.loop-k.invariant within w.0.left))
-    c.if-tables-k-lt-INACTIVE.branch
+    elim c.if-tables-k-lt-INACTIVE.branch [
+      then-tables-k-lt-INACTIVE w ↦ rw w.room-is (turn-yes c.requires _ c.loop-k.invariant within (omega (arith, w.if-tables-k-lt-INACTIVE.true)) w.settle_table.ensures)
+    | else-tables-k-lt-INACTIVE w ↦ rw w.room-is (turn-no c.requires _ c.loop-k.invariant within w.if-tables-k-lt-INACTIVE.false)
+    ]
 
 pub returns : goal.returns
 returns c =

@@ -2,7 +2,7 @@
 -- row, or of one that was updated in the columns of the update; joined, it is as it was.
 use borrow.Author.Tests.{eqb-true}
 use mathlib.Core.Path.{◌≡◌, refl, sym, ◌∙◌}
-use mathlib.Core.Bool.{true}
+use mathlib.Core.Bool.{true, false}
 use mathlib.Core.List.{List}
 use Prim.Native.Nat.{ℕ, ◌<◌}
 use native.Mathlib.Omega.{arith}
@@ -15,6 +15,9 @@ use Rattle.effects.proofs.stays.Goals as goal
 -- a place that is hit is in the table
 within : (xs : List ℕ) (base i h : ℕ) → hit h i (table_at xs base) ≡ true → i < low32_at xs base
 within xs base i h q = omega (arith, (hit-true h i (table_at xs base) q).0, table-length xs base)
+
+never : {A : Type 0} → false ≡ true → A
+never q = absurd (let z : ◌≡◌ {A = ℕ} 0 1 = cc in omega arith)
 
 pub kind_at-kind-requires : goal.kind_at-kind-requires
 kind_at-kind-requires c =
@@ -46,7 +49,7 @@ returns-then-is_at c =
     (inserted-stays _ _ (sym c.kind_at-kind.ensures ∙ eqb-true _ 1 same) c.if-op-eq-UPDATED.true)
 
 pub returns-else-is_at : goal.returns-else-is_at
-returns-else-is_at c = absurd (let z : ◌≡◌ {A = ℕ} 0 1 = cc in omega arith)
+returns-else-is_at c = never
 
 pub returns-else-op-eq-UPDATED : goal.returns-else-op-eq-UPDATED
-returns-else-op-eq-UPDATED c = absurd (let z : ◌≡◌ {A = ℕ} 0 1 = cc in omega arith)
+returns-else-op-eq-UPDATED c = never

@@ -1,13 +1,13 @@
 -- `effects::weave` meets its contract: before each turn what is woven and what is left are what is to be woven; at the end of the stretch
 -- the rest of what waits is brought, and all of it takes its place.
 use mathlib.Core.Path.{sym, ◌∙◌}
-use mathlib.Core.Logic.{⊎_elim}
 use Prim.Native.Nat.{◌-◌}
 use native.Mathlib.Omega.{arith}
 use Rattle.slots.specs.Slots.{table_bytes}
 use Rattle.effects.proofs.SpareTable.{weave-loom, weave-start, weave-fits, weaving-loom, weaving-reads, weaving-next}
 use Rattle.effects.proofs.SpareTable.{weave-own, weave-other, last-brings, put-ready, put-aside}
 use Rattle.effects.proofs.weave.Goals as goal
+use Rattle.effects.proofs.weave.Goals.{then-table_at-wide, else-table_at-wide}
 
 pub empty-requires : goal.empty-requires
 unfolding table_bytes
@@ -46,15 +46,15 @@ weave_one-i-requires c =
 pub loop-j-preserved : goal.loop-j-preserved
 loop-j-preserved c =
     let loom = weave-loom c.requires.settles c.empty.ensures in
-    ⊎_elim
-    (λ q.
-    let own = sym c.table_at.ensures ∙ q.0.taken ∙ c.wide.ensures.0 in
-    rw (q.5, q.6) (weave-own loom c.loop-j.invariant own q.2.ensures))
-    (λ q.
-    rw (q.1, q.2)
-    (weave-other loom c.loop-j.invariant (weaving-reads loom c.loop-j.invariant c.size-m.ensures c.loop-j-test.true)
-    (λ own. q.0.left (c.table_at.ensures ∙ own ∙ sym c.wide.ensures.0))))
-    c.if-table_at-wide.branch
+    elim c.if-table_at-wide.branch [
+      then-table_at-wide w ↦
+          let own = sym c.table_at.ensures ∙ w.if-table_at-wide.true ∙ c.wide.ensures.0 in
+          rw (w.room-is, w.i-is) (weave-own loom c.loop-j.invariant own w.weave_one-i.ensures)
+    | else-table_at-wide w ↦
+          rw (w.room-is, w.i-is)
+          (weave-other loom c.loop-j.invariant (weaving-reads loom c.loop-j.invariant c.size-m.ensures c.loop-j-test.true)
+          (λ own. w.if-table_at-wide.false (c.table_at.ensures ∙ own ∙ sym c.wide.ensures.0)))
+    ]
 
 pub bring-requires : goal.bring-requires
 bring-requires c =

@@ -19,7 +19,7 @@ plan_of-plan-requires c =
 pub returns-then-not-order : goal.returns-then-not-order
 returns-then-not-order c =
     let w = told c.args.book.now c.judge.ensures.told c.in-Is.is in
-    let cycle = without-order c.args.book.now _ _ c.plan_of-plan.result w c.plan_of-plan.ensures c.if-not-order.true in
+    let cycle = without-order c.args.book.now _ _ c.plan_of-plan.result w c.plan_of-plan.ensures (not-true _ c.if-not-order.true) in
     check-cycle c.args.book.now c.args.out.now c.if-out-lt-CHECK.false cycle
 
 pub put_numbers-requires : goal.put_numbers-requires
@@ -34,7 +34,7 @@ put_numbers-requires c =
 pub returns-else-not-order : goal.returns-else-not-order
 returns-else-not-order c =
     let w = told c.args.book.now c.judge.ensures.told c.in-Is.is in
-    let found = c.if-not-order.false in
+    let found = not-false _ c.if-not-order.false in
     check-rules c.args.book.now c.args.out.now _ _ c.plan_of-plan.result w c.plan_of-plan.ensures c.if-out-lt-CHECK.false found _ c.put_numbers.ensures
 
 pub returns-in-Bad : goal.returns-in-Bad

@@ -14,7 +14,7 @@ plan_of-plan-requires c =
 pub returns-then-not-order : goal.returns-then-not-order
 returns-then-not-order c =
     let w = told c.args.book.now c.judge.ensures.told c.in-Is.is in
-    no-rule-cycle c.args.book.now c.args.k (without-order c.args.book.now _ _ c.plan_of-plan.result w c.plan_of-plan.ensures c.if-not-order.true)
+    no-rule-cycle c.args.book.now c.args.k (without-order c.args.book.now _ _ c.plan_of-plan.result w c.plan_of-plan.ensures (not-true _ c.if-not-order.true))
 
 pub rule_bytes-requires : goal.rule_bytes-requires
 rule_bytes-requires c =
@@ -23,7 +23,7 @@ rule_bytes-requires c =
 pub returns-else-not-order : goal.returns-else-not-order
 returns-else-not-order c =
     let w = told c.args.book.now c.judge.ensures.told c.in-Is.is in
-    rule-given c.args.book.now c.args.k _ _ c.plan_of-plan.result w c.plan_of-plan.ensures c.if-not-order.false c.rule_bytes.ensures
+    rule-given c.args.book.now c.args.k _ _ c.plan_of-plan.result w c.plan_of-plan.ensures (not-false _ c.if-not-order.false) c.rule_bytes.ensures
 
 pub returns-in-Bad : goal.returns-in-Bad
 returns-in-Bad c =

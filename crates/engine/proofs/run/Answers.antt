@@ -28,7 +28,7 @@ unfolding refusal_meant
 returns-then-not-order c =
     let i = image-told c.args.image.now c.judge.ensures.told c.in-Is.is in
     let b = told c.args.book.now c.judge-in-Is.ensures.told c.in-Is-judge.is in
-    let cycle = without-order c.args.book.now _ _ c.plan_of-plan.result b c.plan_of-plan.ensures c.if-not-order.true in
+    let cycle = without-order c.args.book.now _ _ c.plan_of-plan.result b c.plan_of-plan.ensures (not-true _ c.if-not-order.true) in
     run-refused c.if-out-lt-OUTPUT.false c.if-room-lt-ROOM.false Cycle (book-refused c.args.image.now _ c.args.log.now _ _ i _ cycle)
 
 -- an accepted run
@@ -36,16 +36,17 @@ pub transact-e-requires : goal.transact-e-requires
 transact-e-requires c =
     let i = image-told c.args.image.now c.judge.ensures.told c.in-Is.is in
     let b = told c.args.book.now c.judge-in-Is.ensures.told c.in-Is-judge.is in
-    (
-      accepts _ _ c.args.log.now _ _ i _ _ c.plan_of-plan.result b c.plan_of-plan.ensures c.if-not-order.false _,
-      (c.if-out-lt-OUTPUT.false, c.if-room-lt-ROOM.false),
-    )
+    record {
+      accepts = accepts _ _ c.args.log.now _ _ i _ _ c.plan_of-plan.result b c.plan_of-plan.ensures (not-false _ c.if-not-order.false) _;
+      in_bounds = c.if-out-lt-OUTPUT.false;
+      in_bounds_2 = c.if-room-lt-ROOM.false;
+    }
 
 pub returns-in-Is-judge-2 : goal.returns-in-Is-judge-2
 returns-in-Is-judge-2 c =
     let i = image-told c.args.image.now c.judge.ensures.told c.in-Is.is in
     let b = told c.args.book.now c.judge-in-Is.ensures.told c.in-Is-judge.is in
-    let v = log-accepted _ _ c.args.log.now _ _ i _ _ c.plan_of-plan.result b c.plan_of-plan.ensures c.if-not-order.false _ i.image _ _
+    let v = log-accepted _ _ c.args.log.now _ _ i _ _ c.plan_of-plan.result b c.plan_of-plan.ensures (not-false _ c.if-not-order.false) _ i.image _ _
     c.judge-in-Is-judge.ensures c.in-Is-judge-2.is in
     run-accepted c.if-out-lt-OUTPUT.false c.if-room-lt-ROOM.false v (c.transact-e.ensures.hands_back _ i.image) c.transact-e.ensures.cleared
 
@@ -55,7 +56,7 @@ unfolding refusal_meant
 returns-in-Bad-judge-2 c =
     let i = image-told c.args.image.now c.judge.ensures.told c.in-Is.is in
     let b = told c.args.book.now c.judge-in-Is.ensures.told c.in-Is-judge.is in
-    let v = log-refused _ _ c.args.log.now _ _ i _ _ c.plan_of-plan.result b c.plan_of-plan.ensures c.if-not-order.false _
+    let v = log-refused _ _ c.args.log.now _ _ i _ _ c.plan_of-plan.result b c.plan_of-plan.ensures (not-false _ c.if-not-order.false) _
     c.judge-in-Is-judge.ensures c.in-Bad-judge-2.is in
     run-refused c.if-out-lt-OUTPUT.false c.if-room-lt-ROOM.false Log v
 

@@ -13,8 +13,8 @@ put32-requires-2 c =
 pub put16-requires : goal.put16-requires
 put16-requires c =
     let kept1 = put-length c.args.out.now (bytes4 (7 + 21 * c.args.count)) 0 c.put32.ensures in
-    let kept2 = put-length (set c.put32.new.0 4 1) (bytes4 c.args.next) 5 c.put32-2.ensures in
-    omega (arith, length-set c.put32.new.0 4 1)
+    let kept2 = put-length (set c.put32.new.s 4 1) (bytes4 c.args.next) 5 c.put32-2.ensures in
+    omega (arith, length-set c.put32.new.s 4 1)
 
 pub returns : goal.returns
 returns c =

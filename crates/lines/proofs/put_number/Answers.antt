@@ -9,5 +9,5 @@ put_bytes-requires c =
 
 pub returns : goal.returns
 returns c =
-    puts-number c.args.n c.decimal-k.result c.requires.n_bound c.decimal-k.ensures.len c.decimal-k.ensures.in_bounds.1 c.decimal-k.ensures.1.1
+    puts-number c.args.n c.decimal-k.result c.requires.n_bound c.decimal-k.ensures.len c.decimal-k.ensures.in_bounds.1 c.decimal-k.ensures.digits
     c.put_bytes.ensures

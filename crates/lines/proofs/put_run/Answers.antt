@@ -7,7 +7,10 @@ use Rattle.lines.proofs.put_run.Goals as goal
 pub put_head-here-requires : goal.put_head-here-requires
 put_head-here-requires c =
     let few = (rows-stand c.requires.well_formed).few in
-    (omega arith, (omega arith, omega arith, omega arith, omega arith))
+    record {
+      in_bounds = omega arith;
+      outcome_bound = (omega arith, omega arith, omega arith, omega arith);
+    }
 
 pub put_rows-requires : goal.put_rows-requires
 put_rows-requires c =

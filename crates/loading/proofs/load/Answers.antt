@@ -11,14 +11,14 @@ loop-left-init c =
 
 pub load_row-requires : goal.load_row-requires
 load_row-requires c = record {
-      stands = c.loop-left.invariant.stands;
-      room_bound = omega arith;
-      at_in_bounds = omega arith;
-    }
+  stands = c.loop-left.invariant.stands;
+  room_bound = omega arith;
+  at_in_bounds = omega arith;
+}
 
 pub loop-left-preserved : goal.loop-left-preserved
 loop-left-preserved c =
-    loading-more c.loop-left.invariant (omega arith) c.Load-row.ensures
+    loading-more c.loop-left.invariant (omega arith) c.load_row.ensures
 
 pub returns : goal.returns
 returns c =

@@ -23,7 +23,7 @@ overflow_sub-next c =
 pub place-requires : goal.place-requires
 place-requires c =
     let span = rule-spans c.args.book.now c.args.n c.args.k c.rules_end.ensures c.in-At.is c.rule_at.ensures c.in-Is.is in
-    (omega arith, omega arith)
+    record { start_bound = omega arith; size_bound = omega arith }
 
 pub returns-in-Is : goal.returns-in-Is
 unfolding start_after start_read rule_after bytes_read rule_or

@@ -11,28 +11,28 @@ overflow_mul-result c =
     let o = outcome_meant c.args.outcome in
     let small = outcome-small o in
     let few = reason-small o in
-    record { fits = omega arith }
+    omega arith
 
 pub overflow_mul-result-2 : goal.overflow_mul-result-2
 overflow_mul-result-2 c =
     let o = outcome_meant c.args.outcome in
     let small = outcome-small o in
     let few = reason-small o in
-    record { fits = omega arith }
+    omega arith
 
 pub overflow_add-result : goal.overflow_add-result
 overflow_add-result c =
     let o = outcome_meant c.args.outcome in
     let small = outcome-small o in
     let few = reason-small o in
-    record { fits = omega arith }
+    omega arith
 
 pub overflow_add-result-2 : goal.overflow_add-result-2
 overflow_add-result-2 c =
     let o = outcome_meant c.args.outcome in
     let small = outcome-small o in
     let few = reason-small o in
-    record { fits = omega arith }
+    omega arith
 
 pub returns : goal.returns
 unfolding answer_word

@@ -54,4 +54,4 @@ returns c =
     (omega arith))
 
 pub overflow_cast-rules : goal.overflow_cast-rules
-overflow_cast-rules c = omega (arith, array-write-taken c)
+overflow_cast-rules c = omega (arith, bounds-taken-j c)

@@ -20,14 +20,14 @@ low32-requires c = omega arith
 
 pub put_head-requires : goal.put_head-requires
 put_head-requires c = record {
-      in_bounds = omega arith;
-      count_bound = omega arith;
-    }
+  in_bounds = omega arith;
+  count_bound = omega arith;
+}
 
 pub loop-left-init : goal.loop-left-init
 loop-left-init c =
     let all : length (table_at c.args.room.now LIVE) ≡ c.size-n.result = table-length c.args.room.now LIVE ∙ sym c.size-n.ensures in
-    writing_start (table_at c.args.room.now LIVE) (low32_at c.args.room.now NEXT) c.size-n.result c.args.out.now c.put_head.new.0 all
+    writing_start (table_at c.args.room.now LIVE) (low32_at c.args.room.now NEXT) c.size-n.result c.args.out.now c.put_head.new.out all
     (omega (arith, c.size-n.ensures, c.requires.stands.size)) c.requires.in_bounds
     (rw c.low32.ensures at c.put_head.ensures)
 
@@ -46,13 +46,13 @@ live_row-requires c =
 
 pub put_row-requires : goal.put_row-requires
 put_row-requires c = record {
-      in_bounds = simp (length-take, length-drop) (omega (arith, writing-length c.loop-left.invariant));
-      table_bound = c.live_row.ensures.table;
-    }
+  in_bounds = simp (length-take, length-drop) (omega (arith, writing-length c.loop-left.invariant));
+  table_bound = c.live_row.ensures.table;
+}
 
 pub loop-left-preserved : goal.loop-left-preserved
 loop-left-preserved c =
-    writing_more c.loop-left.invariant c.loop-left-test.true c.put_row.new.0
+    writing_more c.loop-left.invariant c.loop-left-test.true c.put_row.new.part
     (rw c.live_row.ensures.is at c.put_row.ensures)
 
 pub returns : goal.returns

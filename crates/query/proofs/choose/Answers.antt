@@ -32,10 +32,13 @@ wide-requires c = tt
 
 pub push_place-requires : goal.push_place-requires
 push_place-requires c =
-    (
-      c.loop-j.invariant.stands,
-      (choosing-room _ c.loop-j.invariant c.loop-j-test.true, (omega arith, (choosing-stands _ c.loop-j.invariant c.loop-j-test.true, choosing-inside _ c.loop-j.invariant c.loop-j-test.true c.wide.ensures.0))),
-    )
+    record {
+      stands = c.loop-j.invariant.stands;
+      base_bound = choosing-room _ c.loop-j.invariant c.loop-j-test.true;
+      most_bound = omega arith;
+      stands_2 = choosing-stands _ c.loop-j.invariant c.loop-j-test.true;
+      i_bound = choosing-inside _ c.loop-j.invariant c.loop-j-test.true c.wide.ensures.0;
+    }
 
 pub loop-j-preserved : goal.loop-j-preserved
 loop-j-preserved c =

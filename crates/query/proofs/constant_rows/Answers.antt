@@ -1,7 +1,6 @@
 -- `query::constant_rows` meets its contract: the places are narrowed in place to those of the rows of which the comparison holds.
 use borrow.Author.Rules.{rules}
 use mathlib.Core.Path.{◌≡◌, sym, ◌∙◌}
-use mathlib.Core.Logic.{⊎_elim}
 use Prim.Native.Nat.{◌-◌}
 use native.Mathlib.Omega.{arith}
 use lib.ListN.{length}
@@ -10,6 +9,7 @@ use Rattle.slots.specs.Slots.{table_at}
 use Rattle.query.proofs.Laws.{cell-read}
 use Rattle.query.proofs.Narrowing.{narrowing-start, narrowing-few, narrowing-room, narrowing-stands, narrowing-yes}
 use Rattle.query.proofs.Narrowing.{narrowing-no, narrowing-done}
+use Rattle.query.proofs.constant_rows.Goals.{then-compare, else-compare}
 use Rattle.query.proofs.constant_rows.Goals as goal
 
 pub loop-j-init : goal.loop-j-init
@@ -44,10 +44,10 @@ bounds-places-count c =
 pub loop-j-preserved : goal.loop-j-preserved
 loop-j-preserved c =
     let value = cell-read (table_at c.args.room.now c.args.base) c.args.column c.wide.ensures.0 c.value_at-v.ensures in
-    ⊎_elim
-    (λ w. rw (w.1, w.2) (narrowing-yes _ _ c.loop-j.invariant c.loop-j-test.true (rw (← value) (sym c.compare.ensures ∙ w.0.taken))))
-    (λ w. rw (w.1, w.2) (narrowing-no _ _ c.loop-j.invariant c.loop-j-test.true (rw (← value) (sym c.compare.ensures ∙ w.0.left))))
-    c.if-compare.branch
+    elim c.if-compare.branch [
+      | then-compare w ↦ rw (w.places-is, w.count-is) (narrowing-yes _ _ c.loop-j.invariant c.loop-j-test.true (rw (← value) (sym c.compare.ensures ∙ w.if-compare.true)))
+      | else-compare w ↦ rw (w.places-is, w.count-is) (narrowing-no _ _ c.loop-j.invariant c.loop-j-test.true (rw (← value) (sym c.compare.ensures ∙ w.if-compare.false)))
+    ]
 
 pub returns : goal.returns
 returns c = narrowing-done _ _ c.loop-j.invariant c.loop-j-test.false

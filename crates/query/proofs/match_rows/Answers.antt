@@ -22,20 +22,17 @@ returns-then-others-eq0 c =
     c.if-negated.false
 
 pub pairs_at-requires : goal.pairs_at-requires
-pairs_at-requires c = let given = c.requires.1.1.1 in record { in_bounds = given.0; at_len_bound = given.1 }
+pairs_at-requires c = record { in_bounds = c.requires.in_bounds; at_len_bound = c.requires.pairs_len_bound }
 
 pub matched-requires : goal.matched-requires
 matched-requires c =
-    (
-      c.requires.stands,
-      (
-        c.requires.within,
-        (
-          base-stands c.requires.laid c.args.source c.base_of-from.ensures,
-          (c.shown_rows-others.ensures.within, omega (arith, c.if-others-eq0.false)),
-        ),
-      ),
-    )
+    record {
+      stands = c.requires.stands;
+      within = c.requires.within;
+      stands_2 = base-stands c.requires.laid c.args.source c.base_of-from.ensures;
+      within_2 = c.shown_rows-others.ensures.within;
+      count_nonzero = omega (arith, c.if-others-eq0.false);
+    }
 
 pub returns : goal.returns
 returns c =

@@ -1,9 +1,9 @@
 -- `query::some_of_64` meets its contract. The loop's invariant: there are hits where a row before j has what is wanted, and no more than j.
 use mathlib.Core.Path.{◌≡◌}
-use mathlib.Core.Logic.{⊎_elim}
 use Prim.Native.Nat.{◌-◌}
 use native.Mathlib.Omega.{arith}
 use Rattle.query.proofs.Columns.{has_all, has-not-all, counting-start, counting-yes, counting-no}
+use Rattle.query.proofs.some_of_64.Goals.{then-s0-j-eq0, else-s0-j-eq0}
 use Rattle.query.proofs.some_of_64.Goals as goal
 
 pub loop-j-init : goal.loop-j-init
@@ -11,10 +11,10 @@ loop-j-init c = counting-start _
 
 pub loop-j-preserved : goal.loop-j-preserved
 loop-j-preserved c =
-    ⊎_elim
-    (λ w. rw w.1 (counting-yes c.loop-j.invariant c.loop-j-test.true (has_all _ _ _ _ _ _ w.0.taken)))
-    (λ w. rw w.1 (counting-no c.loop-j.invariant c.loop-j-test.true (has-not-all _ _ _ _ _ _ w.0.left)))
-    c.if-s0-j-eq0.branch
+    elim c.if-s0-j-eq0.branch [
+      | then-s0-j-eq0 w ↦ rw w.hits-is (counting-yes c.loop-j.invariant c.loop-j-test.true (has_all _ _ _ _ _ _ w.if-s0-j-eq0.true))
+      | else-s0-j-eq0 w ↦ rw w.hits-is (counting-no c.loop-j.invariant c.loop-j-test.true (has-not-all _ _ _ _ _ _ w.if-s0-j-eq0.false))
+    ]
 
 pub returns : goal.returns
 returns c =

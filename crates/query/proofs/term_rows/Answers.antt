@@ -10,7 +10,13 @@ pub match_rows-requires : goal.match_rows-requires
 unfolding term_meant
 match_rows-requires c =
     let few = match-few _ _ _ (rw c.in-Match.is at c.requires.few_pairs) in
-    (c.requires.laid, (c.requires.stands, (c.requires.within, few)))
+    record {
+      laid = c.requires.laid;
+      stands = c.requires.stands;
+      within = c.requires.within;
+      in_bounds = few.0;
+      pairs_len_bound = few.1;
+    }
 
 pub returns-in-Constant : goal.returns-in-Constant
 unfolding term_holds holds term_meant

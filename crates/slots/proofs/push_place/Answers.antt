@@ -10,9 +10,9 @@ use Rattle.slots.proofs.push_place.Goals as goal
 pub copy-requires : goal.copy-requires
 unfolding table_bytes
 copy-requires c = record {
-      from_in_bounds = omega arith;
-      to_in_bounds = omega arith;
-    }
+  from_in_bounds = omega arith;
+  to_in_bounds = omega arith;
+}
 
 pub returns : goal.returns
 unfolding table_bytes

@@ -8,9 +8,9 @@ use Rattle.slots.proofs.put_tail.Goals as goal
 pub copy_bytes-requires : goal.copy_bytes-requires
 unfolding table_bytes
 copy_bytes-requires c = record {
-      n_bound = omega arith;
-      n_in_bounds = omega arith;
-    }
+  n_bound = omega arith;
+  n_in_bounds = omega arith;
+}
 
 pub returns : goal.returns
 unfolding table_bytes

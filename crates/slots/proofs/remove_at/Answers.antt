@@ -10,11 +10,35 @@ use Rattle.slots.proofs.remove_at.Goals as goal
 pub returns : goal.returns
 unfolding table_bytes
 returns c =
+    let small : c.size-n.result < 4294967296 = rw c.size-n.ensures (low32-lt _ (λ k. (c.slice_known-1.given k).fits) _) in
     removed _ _ _ _ c.requires.stands c.size-n.ensures (omega arith) c.move_down.ensures
-    (word-put _ _ (omega (arith, small c)) (omega arith) c.put_low32.ensures)
+    (word-put _ _ (omega arith) (omega arith) c.put_low32.ensures)
 
--- ?? -- the size is a word
--- ?? small : (c : tie.After-size) → c.size.result < 4294967296
--- ?? small c =
--- ??     let known = c.before.before in
--- ??     rw c.size.ensures (low32-lt _ (λ k. (known.slice-known.given k).fits) _)
+pub size-n-requires : goal.size-n-requires
+unfolding table_bytes
+size-n-requires c = omega arith
+
+pub overflow_mul-i : goal.overflow_mul-i
+unfolding table_bytes
+overflow_mul-i c = omega arith
+
+pub overflow_add-base-2 : goal.overflow_add-base-2
+unfolding table_bytes
+overflow_add-base-2 c = omega arith
+
+pub overflow_mul-n : goal.overflow_mul-n
+unfolding table_bytes
+overflow_mul-n c = omega arith
+
+pub move_down-requires : goal.move_down-requires
+unfolding table_bytes
+move_down-requires c = omega arith
+
+pub overflow_cast-n : goal.overflow_cast-n
+overflow_cast-n c =
+    let small : c.size-n.result < 4294967296 = rw c.size-n.ensures (low32-lt _ (λ k. (c.slice_known-1.given k).fits) _) in
+    omega arith
+
+pub put_low32-requires : goal.put_low32-requires
+unfolding table_bytes
+put_low32-requires c = omega arith

@@ -8,17 +8,16 @@ slice_bounds-s-end c = c.part_end-n.ensures.upper_bound
 
 pub put_run-requires : goal.put_run-requires
 put_run-requires c =
-    let o = outcome_meant c.args.outcome in (
-      c.requires.in_bounds,
-      (
-        (
-          rw c.outcome.ensures (outcome-small o),
-          rw c.reason.ensures (reason-small o),
-          count_small c.requires.telling,
-        ),
-        rw c.in-Is.is at c.judge.ensures.told,
-      ),
-    )
+    let o = outcome_meant c.args.outcome in
+    record {
+      in_bounds = c.requires.in_bounds;
+      outcome_bound = (
+        rw c.outcome.ensures (outcome-small o),
+        rw c.reason.ensures (reason-small o),
+        count_small c.requires.telling,
+      );
+      well_formed = c.in-Is.ensures.told;
+    }
 
 pub returns-in-Is : goal.returns-in-Is
 returns-in-Is c =

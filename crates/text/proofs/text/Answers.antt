@@ -6,7 +6,7 @@ use Rattle.text.proofs.text.Goals as goal
 
 pub returns-then-input-gt-INPUT : goal.returns-then-input-gt-INPUT
 returns-then-input-gt-INPUT c =
-    too-long-texts c.args.input.now (omega (arith, c.if-input-gt-INPUT.true)) c.Put-refused.ensures
+    too-long-texts c.args.input.now (omega (arith, c.if-input-gt-INPUT.true)) c.put_refused.ensures
 
 pub slice_bounds-more-count : goal.slice_bounds-more-count
 slice_bounds-more-count c = omega (arith, c.part_end-a.ensures.upper_bound)
@@ -33,7 +33,7 @@ put_answer-requires c =
       telling = record {
         verdict = verdict_on c.args.input.now;
         tells = cut-tells c.args.input.now c.part_end-a.ensures.value c.part_end-b.ensures.value c.run-answer.ensures c.requires.in_bounds c.requires.in_bounds_2;
-      },;
+      };
     }
 
 pub returns : goal.returns

@@ -10,17 +10,18 @@ process-e-requires c =
       count_bound = c.requires.accepts.few;
       planned = c.requires.accepts.planned;
       numbers = c.requires.accepts.numbers;
-      starts = starts c.requires.accepts c.load.ensures (λ k. (c.type_inv.room k).fits);
+      starts = starts c.requires.accepts c.load.ensures (λ k. (c.slice_known-3-1.given k).fits);
     }
 
 pub hand_back-requires : goal.hand_back-requires
 hand_back-requires c =
-    (
-      live-stands c.requires.accepts c.load.ensures (λ k. (c.type_inv.room k).fits) c.process-e.ensures,
-      (c.requires.in_bounds, image-length _ _ c.requires.accepts.rows.image),
-    )
+    record {
+      stands = live-stands c.requires.accepts c.load.ensures (λ k. (c.slice_known-3-1.given k).fits) c.process-e.ensures;
+      in_bounds = c.requires.in_bounds;
+      image_len_bound = image-length _ _ c.requires.accepts.rows.image;
+    }
 
 pub returns : goal.returns
 returns c =
-    transacts c.requires.accepts c.load.ensures (λ k. (c.type_inv.room k).fits) c.process-e.ensures
+    transacts c.requires.accepts c.load.ensures (λ k. (c.slice_known-3-1.given k).fits) c.process-e.ensures
     c.hand_back.ensures c.clear.ensures

@@ -27,7 +27,13 @@ draw_held-requires c =
 
 pub draw_updated-requires : goal.draw_updated-requires
 draw_updated-requires c =
-    (c.requires.stands, (c.requires.i_bound, (sym c.kind_at-kind.ensures ∙ c.in-3.is, c.requires.1.1)))
+    record {
+      stands = c.requires.stands;
+      i_bound = c.requires.i_bound;
+      i_value = sym c.kind_at-kind.ensures ∙ c.in-3.is;
+      live_rises = c.requires.live_rises;
+      room_for_all = c.requires.room_for_all;
+    }
 
 pub returns-in-1 : goal.returns-in-1
 returns-in-1 c =

@@ -1,11 +1,11 @@
 -- `working::with_values` meets its contract. The loop's invariant: the row, filled with the values still to come from its column on, is
 -- the row wanted.
-use mathlib.Core.Logic.{⊎_elim}
 use mathlib.Core.Path.{sym, ◌∙◌}
 use native.Mathlib.Omega.{arith}
 use Prim.Native.Nat.{◌-◌}
 use Rattle.words.specs.Words.{Bytes}
 use Rattle.working.proofs.Values.{filling-start, filling-done, filling-fits, filling-set, filling-unset}
+use Rattle.working.proofs.with_values.Goals.{then-has_bit, else-has_bit}
 use Rattle.working.proofs.with_values.Goals as goal
 
 pub loop-c-init : goal.loop-c-init
@@ -27,12 +27,14 @@ pub loop-c-preserved : goal.loop-c-preserved
 loop-c-preserved c =
     let bytes : Bytes c.args.s.now = λ i. (c.type_inv.s i).fits in
     let test = sym c.has_bit.ensures in
-    ⊎_elim
-    (λ w.
-    rw (w.3, w.4)
-    (filling-set c.args.s.now bytes c.args.mask c.loop-c.invariant c.loop-c-test.true (test ∙ w.0.taken) (rw (← w.1.ensures) w.2.ensures)))
-    (λ w. rw (w.1, w.2) (filling-unset c.args.s.now bytes c.args.mask c.loop-c.invariant c.loop-c-test.true (test ∙ w.0.left)))
-    c.if-has_bit.branch
+    elim c.if-has_bit.branch [
+      | then-has_bit w ↦
+          rw (w.row-is, w.here-is)
+          (filling-set c.args.s.now bytes c.args.mask c.loop-c.invariant c.loop-c-test.true (test ∙ w.if-has_bit.true) (rw (← w.word32.ensures) w.with_cell-row.ensures))
+      | else-has_bit w ↦
+          rw (w.row-is, w.here-is)
+          (filling-unset c.args.s.now bytes c.args.mask c.loop-c.invariant c.loop-c-test.true (test ∙ w.if-has_bit.false))
+    ]
 
 pub returns : goal.returns
 returns c =

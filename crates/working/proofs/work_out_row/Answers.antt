@@ -1,12 +1,12 @@
 -- `working::work_out_row` meets its contract. The loop's invariant: worked row i, filled from its column on with what the expressions
 -- still to come give over chosen row i, is the row wanted, and nothing else has changed.
-use mathlib.Core.Logic.{⊎_elim}
 use mathlib.Core.Path.{sym, ap, ◌∙◌}
 use Prim.Native.Nat.{◌-◌}
 use Rattle.words.specs.Words.{sum_meant}
 use Rattle.terms.specs.Terms.{expression_or}
 use Rattle.working.proofs.OneRow.{storing-start, storing-done, storing-bad, storing-unset, storing-out, storing-set}
 use Rattle.working.proofs.OneRow.{changed-stands, changed-below, changed-within}
+use Rattle.working.proofs.work_out_row.Goals.{then-has_bit+in-Is+in-Is-work_out, else-has_bit}
 use Rattle.working.proofs.work_out_row.Goals as goal
 
 pub loop-c-init : goal.loop-c-init
@@ -46,14 +46,16 @@ pub loop-c-preserved : goal.loop-c-preserved
 unfolding sum_meant expression_or
 loop-c-preserved c =
     let test = sym c.has_bit.ensures in
-    ⊎_elim
-    (λ w.
-    rw (w.14, w.15)
-    (storing-set c.args.book.now c.args.mask c.loop-c.invariant c.loop-c-test.true (test ∙ w.0.taken)
-    (sym w.1.ensures ∙ ap expression_or w.3.given.1) _
-    (sym (ap sum_meant w.8.given.1) ∙ w.6.ensures) w.11.ensures))
-    (λ w. rw (w.1, w.2) (storing-unset c.args.book.now c.args.mask c.loop-c.invariant c.loop-c-test.true (test ∙ w.0.left)))
-    c.if-has_bit.branch
+    elim c.if-has_bit.branch [
+      | then-has_bit+in-Is+in-Is-work_out w ↦
+          rw (w.room-is, w.here-is)
+          (storing-set c.args.book.now c.args.mask c.loop-c.invariant c.loop-c-test.true (test ∙ w.if-has_bit.true)
+          (sym w.expression_at.ensures ∙ ap expression_or w.in-Is.is) _
+          (sym (ap sum_meant w.in-Is-work_out.is) ∙ w.work_out.ensures) w.put_value.ensures)
+      | else-has_bit w ↦
+          rw (w.room-is, w.here-is)
+          (storing-unset c.args.book.now c.args.mask c.loop-c.invariant c.loop-c-test.true (test ∙ w.if-has_bit.false))
+    ]
 
 pub returns : goal.returns
 returns c =

@@ -1,4 +1,4 @@
--- `log::operation_at` meets its contract: the first byte says which operation stands after it.
+-- `transaction_log::operation_at` meets its contract: the first byte says which operation stands after it.
 use borrow.Author.Tests.{ltb-true, ltb-false, ne_eqb}
 use lib.Dec.{ltb}
 use lib.ListN.{length}
@@ -6,8 +6,8 @@ use native.Mathlib.Omega.{arith}
 use Rattle.meaning.specs.ByteLayouts.{operation, operation_of}
 use Rattle.words.specs.Words.{Bytes}
 use Rattle.words.proofs.Laws.{split, byte-read, byte-short}
-use Rattle.log.specs.Log.{operation_or}
-use Rattle.log.proofs.operation_at.Goals as goal
+use Rattle.transaction_log.specs.Log.{operation_or}
+use Rattle.transaction_log.proofs.operation_at.Goals as goal
 
 pub returns-in-1 : goal.returns-in-1
 unfolding operation operation_of

@@ -1,4 +1,4 @@
--- `log::change` meets its contract: a handle, a mask 1..15, and after them a value for each set bit of the mask, at most 4 of them.
+-- `transaction_log::change` meets its contract: a handle, a mask 1..15, and after them a value for each set bit of the mask, at most 4 of them.
 use lib.Count.{ones, ones-le}
 use mathlib.Core.Path.{sym, ◌∙◌}
 use native.Mathlib.Omega.{arith}
@@ -8,8 +8,8 @@ use Rattle.meaning.specs.ByteLayouts.{change, mask, value}
 use Rattle.words.specs.Words.{Bytes}
 use Rattle.words.proofs.Laws.{number32-read, number32-short, byte-within-yes, byte-within-low, byte-within-high, short-bad}
 use Rattle.fields.proofs.Laws.{stands, stands-not, values-taken}
-use Rattle.log.specs.Log.{operation_or, operation_meant}
-use Rattle.log.proofs.change.Goals as goal
+use Rattle.transaction_log.specs.Log.{operation_or, operation_meant}
+use Rattle.transaction_log.proofs.change.Goals as goal
 
 pub returns-then-not-has : goal.returns-then-not-has
 unfolding operation_or change

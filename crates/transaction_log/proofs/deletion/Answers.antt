@@ -1,12 +1,12 @@
--- `log::deletion` meets its contract: a handle of four bytes.
+-- `transaction_log::deletion` meets its contract: a handle of four bytes.
 use native.Mathlib.Omega.{arith}
 use Prim.Native.Nat.{◌+◌}
 use Rattle.meaning.specs.ByteLayouts.{deletion}
 use Rattle.words.specs.Words.{Bytes}
 use Rattle.words.proofs.Laws.{number32-read, number32-short}
 use Rattle.fields.proofs.Laws.{stands, stands-not}
-use Rattle.log.specs.Log.{operation_or, operation_meant}
-use Rattle.log.proofs.deletion.Goals as goal
+use Rattle.transaction_log.specs.Log.{operation_or, operation_meant}
+use Rattle.transaction_log.proofs.deletion.Goals as goal
 
 pub returns-then-not-has : goal.returns-then-not-has
 unfolding operation_or deletion

@@ -1,10 +1,10 @@
--- `log::operations_end` meets its contract. The loop's invariant: all the operations end where those that are left end, read from here on.
+-- `transaction_log::operations_end` meets its contract. The loop's invariant: all the operations end where those that are left end, read from here on.
 use mathlib.Core.Path.{sym, ◌∙◌}
 use Rattle.meaning.specs.ByteLayouts.{operation}
 use Rattle.words.specs.Words.{end_of}
 use Rattle.words.proofs.Laws.{ends-none, ends-bad, ends_more}
-use Rattle.log.specs.Log.{operation_or}
-use Rattle.log.proofs.operations_end.Goals as goal
+use Rattle.transaction_log.specs.Log.{operation_or}
+use Rattle.transaction_log.proofs.operations_end.Goals as goal
 
 pub returns-in-Bad : goal.returns-in-Bad
 unfolding end_of operation_or

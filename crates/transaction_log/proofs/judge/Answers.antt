@@ -1,11 +1,11 @@
--- `log::judge` meets its contract: each of its tests decides as the law of that case says.
+-- `transaction_log::judge` meets its contract: each of its tests decides as the law of that case says.
 use mathlib.Core.Path.{sym, ◌∙◌}
 use native.Mathlib.Omega.{arith}
 use Rattle.words.specs.Words.{Bytes}
 use Rattle.fields.proofs.Laws.{passed, failed, stands, stands-not}
-use Rattle.log.specs.Log.{log_or}
-use Rattle.log.proofs.Laws.{log-unframed, log-no-count, log-too-many, log-malformed, log-not-filled, log-read}
-use Rattle.log.proofs.judge.Goals as goal
+use Rattle.transaction_log.specs.Log.{log_or}
+use Rattle.transaction_log.proofs.Laws.{log-unframed, log-no-count, log-too-many, log-malformed, log-not-filled, log-read}
+use Rattle.transaction_log.proofs.judge.Goals as goal
 
 pub returns-then-not-well_framed : goal.returns-then-not-well_framed
 unfolding log_or

@@ -7,12 +7,12 @@ use Rattle.meaning.specs.Covers.{LogOperation, insert, delete, update}
 use Rattle.meaning.specs.ByteLayouts.{operation}
 use Rattle.words.specs.Words.{readable}
 use Rattle.fields.specs.Fields.{values_at}
-use Rattle.log.specs.declared.Operation.{Operation}
-use Rattle.log.specs.declared.Operation.TheVariants.{Insert, Delete, Update}
-use Rattle.log.specs.declared.OperationRead.{OperationRead}
-use Rattle.log.specs.declared.OperationRead.TheVariants as operation_read
-use Rattle.log.specs.declared.LogRead.{LogRead}
-use Rattle.log.specs.declared.LogRead.TheVariants as log_read
+use Rattle.transaction_log.specs.declared.Operation.{Operation}
+use Rattle.transaction_log.specs.declared.Operation.TheVariants.{Insert, Delete, Update}
+use Rattle.transaction_log.specs.declared.OperationRead.{OperationRead}
+use Rattle.transaction_log.specs.declared.OperationRead.TheVariants as operation_read
+use Rattle.transaction_log.specs.declared.LogRead.{LogRead}
+use Rattle.transaction_log.specs.declared.LogRead.TheVariants as log_read
 
 -- the operation that is meant, its values read where they stand
 unfoldable pub operation_meant : List ℕ → Operation → LogOperation

@@ -1,10 +1,11 @@
 // The log: judged exactly, and its operations read one after another.
 #![tactic(auto)]
+
 ghost use Rattle.std.specs.Prelude.{◌≡◌};
 ghost use Rattle.meaning.specs.Reading.{many, read_all};
 ghost use Rattle.meaning.specs.ByteLayouts as ByteLayouts;
 ghost use Rattle.words.specs.Words.{end_of};
-ghost use Rattle.log.specs.Log.{operation_or, log_or};
+ghost use Rattle.transaction_log.specs.Log.{operation_or, log_or};
 
 use words::End;
 

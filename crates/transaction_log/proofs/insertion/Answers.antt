@@ -1,4 +1,4 @@
--- `log::insertion` meets its contract: a table 0..3, and four values after it.
+-- `transaction_log::insertion` meets its contract: a table 0..3, and four values after it.
 use mathlib.Core.Path.{sym, ◌∙◌}
 use native.Mathlib.Omega.{arith}
 use Prim.Native.Nat.{◌+◌}
@@ -6,8 +6,8 @@ use Rattle.meaning.specs.Reading.{many}
 use Rattle.meaning.specs.ByteLayouts.{insertion, table, value}
 use Rattle.words.proofs.Laws.{byte-within-yes, byte-within-high, short-bad}
 use Rattle.fields.proofs.Laws.{values-taken}
-use Rattle.log.specs.Log.{operation_or, operation_meant}
-use Rattle.log.proofs.insertion.Goals as goal
+use Rattle.transaction_log.specs.Log.{operation_or, operation_meant}
+use Rattle.transaction_log.proofs.insertion.Goals as goal
 
 pub returns-then-table-gt3 : goal.returns-then-table-gt3
 unfolding operation_or insertion table
