@@ -2,6 +2,7 @@
 // cut off and on an output of 15 bytes. For each it prints the answer, all of the output, which held 99 before,
 // and the bytes of rules 1, 2 and 3.
 #![tactic(auto)]
+
 ghost use Rattle.std.specs.Prelude.{◌≡◌, length};
 
 use engine::{Checked, Refusal};

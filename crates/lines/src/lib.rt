@@ -1,6 +1,7 @@
 // The lines that the program prints, at the front of bytes that the caller lends. A text is put part by part: each function puts its part
 // at a place, and answers the place after it. A number has at most 10 bytes, so the line of a row has at most 70 and the first line 55.
 #![tactic(auto)]
+
 ghost use Rattle.std.specs.Prelude.{◌≡◌, [], ◌∷◌, ◌++◌, map, ◌+◌, ◌-◌, ◌≤◌, length};
 ghost use Rattle.meaning.specs.Base.{ascii};
 ghost use Rattle.meaning.specs.Values.{signed};

@@ -1,6 +1,7 @@
 // Reads image, book and log from standard input, and prints what the run answers. It decides nothing: the
 // text is the library's, and only reading and writing are done here.
 #![tactic(auto)]
+
 ghost use Rattle.std.specs.Io.{ReadsAtMost};
 
 use std::io;

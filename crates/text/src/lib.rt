@@ -1,5 +1,6 @@
 // The program's text, from the bytes of its standard input: everything that the program decides.
 #![tactic(auto)]
+
 ghost use Rattle.std.specs.Prelude.{◌≡◌, ◌+◌, ◌≤◌, ◌<◌, length};
 ghost use Rattle.meaning.specs.EntryPoints.{first_part};
 ghost use Rattle.engine.specs.declared.Answer.TheVariants.{Ran};

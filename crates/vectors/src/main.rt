@@ -1,10 +1,11 @@
 // Runs cases M, N and O and the inputs of an independent implementation: for each file that an argument names
 // it prints the name and what the program says of the file's bytes. What must be printed stands in `stdout`.
 #![tactic(auto)]
+
 ghost use Rattle.std.specs.Io.{ReadsAtMost};
 
 use std::io::{Read, Write};
-use std::rt::{Env, Files};
+use std::rt::Files;
 use std::{env, fs, io};
 
 // A byte more than an input may have, so that a longer one shows.
