@@ -5,7 +5,7 @@
 ghost use Rattle.std.specs.Io.{ReadsAtMost};
 
 use std::io::{Read, Write};
-use std::rt::{Env, Files};
+use std::rt::Files;
 use std::{env, fs, io};
 
 // A byte more than an input may have, so that a longer one shows.
