@@ -1,5 +1,4 @@
 -- `changes::delete_all` meets its contract: before each turn the rows chosen so far are deleted, and those that are left are still live.
-use Prim.Native.Nat.{◌-◌}
 use native.Mathlib.Omega.{arith}
 use Rattle.room.proofs.Live.{live-sorted}
 use Rattle.changes.proofs.Taking.{taking-start, taking-running, deleting-within, deleting-can, deleting-next}

@@ -1,5 +1,4 @@
 -- `effects::bring` meets its contract: before each turn the slots from `from` up to `i` stand at the end of the spare table.
-use Prim.Native.Nat.{◌-◌}
 use Rattle.effects.proofs.SpareTable.{bring-start, bring-pushes, bring-step, bring-done}
 use Rattle.effects.proofs.bring.Goals as goal
 

@@ -1,5 +1,4 @@
 -- `effects::place_from` meets its contract: before each turn the place of the handle is not before `i`.
-use Prim.Native.Nat.{◌-◌}
 use native.Mathlib.Omega.{arith}
 use Rattle.slots.specs.Slots.{table_bytes}
 use Rattle.effects.proofs.Weaving.{place_here, place-later, place-last}

@@ -1,6 +1,5 @@
 -- `effects::settle_table` meets its contract: before each turn nothing has changed, and what is left of the stretch has the same to join as
 -- all of it; at the first change both are woven from there on.
-use Prim.Native.Nat.{◌-◌}
 use native.Mathlib.Omega.{arith}
 use Rattle.slots.specs.Slots.{table_bytes}
 use Rattle.effects.proofs.SpareTable.{go-start, go-ready, go-reads, go-other, go-low, go_on, go-weaves, go-woven, go-done}

@@ -1,6 +1,6 @@
 -- `effects::settle_tables` meets its contract: before turn `k` what waits for the active rules below `k` is settled, and the others' tables
 -- are as they were.
-use Prim.Native.Nat.{◌-◌, ◌<◌}
+use Prim.Native.Nat.{◌<◌}
 use native.Mathlib.Omega.{arith}
 use Rattle.effects.proofs.AllTables.{upto-start, next-settles, next_fits_lem, turn-yes, turn-no, upto-ended, upto_done}
 use Rattle.effects.proofs.settle_tables.Goals as goal

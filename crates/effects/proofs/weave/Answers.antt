@@ -1,7 +1,6 @@
 -- `effects::weave` meets its contract: before each turn what is woven and what is left are what is to be woven; at the end of the stretch
 -- the rest of what waits is brought, and all of it takes its place.
 use mathlib.Core.Path.{sym, ◌∙◌}
-use Prim.Native.Nat.{◌-◌}
 use native.Mathlib.Omega.{arith}
 use Rattle.slots.specs.Slots.{table_bytes}
 use Rattle.effects.proofs.SpareTable.{weave-loom, weave-start, weave-fits, weaving-loom, weaving-reads, weaving-next}

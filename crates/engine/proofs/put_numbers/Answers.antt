@@ -1,5 +1,4 @@
 -- `engine::put_numbers` meets its contract. The loop's invariant is `Putting`: the first i numbers stand at the front.
-use Prim.Native.Nat.{◌-◌}
 use borrow.Author.Rules.{rules}
 use Rattle.engine.proofs.Numbers.{none-put, one-put, all-put}
 use Rattle.engine.proofs.put_numbers.Goals as goal

@@ -1,6 +1,5 @@
 -- `engine::put_numbers` meets its contract. The loop's invariant is `Putting`: the first i numbers stand at the front.
 use Prim.Native.Nat.{◌-◌}
-use borrow.Author.Rules.{rules}
 use Rattle.engine.proofs.Numbers.{Putting}
 use Rattle.engine.proofs.put_numbers.Given as goal
 

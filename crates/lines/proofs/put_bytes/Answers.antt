@@ -1,7 +1,6 @@
 -- `lines::put_bytes` meets its contract. The loop's invariant: the bytes before place i of the slice are put. The measure is the number of
 -- bytes left.
 use native.Mathlib.Omega.{arith}
-use Prim.Native.Nat.{◌-◌}
 use Rattle.lines.proofs.Texts.{puts-nothing, copy_more, copy-all}
 use Rattle.lines.proofs.put_bytes.Goals as goal
 

@@ -1,5 +1,5 @@
 -- `loading::empty_waits` meets its contract: before turn `k` nothing waits for the rules below `k`.
-use Prim.Native.Nat.{◌-◌, ◌<◌}
+use Prim.Native.Nat.{◌<◌}
 use native.Mathlib.Omega.{arith}
 use Rattle.slots.specs.Slots.{table_bytes}
 use Rattle.loading.proofs.Emptying.{upto-start, upto-more, upto_done}

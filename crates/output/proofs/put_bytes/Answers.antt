@@ -1,5 +1,4 @@
 -- `output::put_bytes` meets its contract. The loop's invariant is `Copying`: the first i bytes stand at the front.
-use Prim.Native.Nat.{◌-◌}
 use Rattle.output.proofs.Fronts.{copying-start, copying-more, copying-done}
 use Rattle.output.proofs.put_bytes.Goals as goal
 

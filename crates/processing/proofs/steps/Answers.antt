@@ -1,6 +1,5 @@
 -- `processing::steps` meets its contract: before each turn, what the rest ends as is what the whole ends as.
 use mathlib.Core.Path.{refl}
-use Prim.Native.Nat.{◌-◌}
 use native.Mathlib.Omega.{arith}
 use Rattle.processing.proofs.Going.{going_start, going-ready, going-quiet, going-limit, going-below}
 use Rattle.processing.proofs.Going.{going-active, going-back, going-fails, going_on}

@@ -2,7 +2,6 @@
 -- but for the chosen rows.
 use borrow.Author.Rules.{rules}
 use mathlib.Core.Path.{◌≡◌}
-use Prim.Native.Nat.{◌-◌}
 use lib.ListN.{length}
 use native.Mathlib.Omega.{arith}
 use Rattle.slots.specs.Slots.{table_bytes}

@@ -1,10 +1,7 @@
 -- `query::constant_rows` meets its contract: the places are narrowed in place to those of the rows of which the comparison holds.
 use borrow.Author.Rules.{rules}
 use mathlib.Core.Path.{◌≡◌, sym, ◌∙◌}
-use Prim.Native.Nat.{◌-◌}
-use native.Mathlib.Omega.{arith}
 use lib.ListN.{length}
-use Rattle.meaning.specs.Values.{compare}
 use Rattle.slots.specs.Slots.{table_at}
 use Rattle.query.proofs.Laws.{cell-read}
 use Rattle.query.proofs.Narrowing.{narrowing-start, narrowing-few, narrowing-room, narrowing-stands, narrowing-yes}

@@ -1,8 +1,6 @@
 -- `query::matched` meets its contract: the places are narrowed in place to those of the rows of which the match holds.
 use borrow.Author.Rules.{rules}
 use mathlib.Core.Path.{◌≡◌, sym, ◌∙◌}
-use Prim.Native.Nat.{◌-◌}
-use native.Mathlib.Omega.{arith}
 use lib.ListN.{length}
 use Rattle.query.proofs.Narrowing.{narrowing-start, narrowing-few, narrowing-room, narrowing-stands, narrowing-yes}
 use Rattle.query.proofs.Narrowing.{narrowing-no, narrowing-done}

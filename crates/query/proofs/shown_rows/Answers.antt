@@ -1,6 +1,6 @@
 -- `query::shown_rows` meets its contract: the places of those of the first i slots that the source shows are written one after another.
 use mathlib.Core.Path.{sym, ◌∙◌}
-use Prim.Native.Nat.{◌-◌, ◌<◌}
+use Prim.Native.Nat.{◌<◌}
 use native.Mathlib.Omega.{arith}
 use lib.ListN.{length}
 use Rattle.slots.specs.Slots.{table_at, table_bytes}

@@ -1,6 +1,5 @@
 -- `query::some_of_64` meets its contract. The loop's invariant: there are hits where a row before j has what is wanted, and no more than j.
 use mathlib.Core.Path.{◌≡◌}
-use Prim.Native.Nat.{◌-◌}
 use native.Mathlib.Omega.{arith}
 use Rattle.query.proofs.Columns.{has_all, has-not-all, counting-start, counting-yes, counting-no}
 use Rattle.query.proofs.some_of_64.Goals.{then-s0-j-eq0, else-s0-j-eq0}

@@ -1,9 +1,7 @@
 -- `query::some_of_few` meets its contract. The loop's invariant: no row before j has what is wanted.
 use mathlib.Core.Path.{◌≡◌, refl, sym, ◌∙◌}
-use mathlib.Core.Bool.{false}
-use Prim.Native.Nat.{◌-◌}
 use native.Mathlib.Omega.{arith}
-use Rattle.query.specs.Columns.{has_at, some_below}
+use Rattle.query.specs.Columns.{some_below}
 use Rattle.query.proofs.Columns.{below_more, below-found}
 use Rattle.query.proofs.some_of_few.Goals as goal
 

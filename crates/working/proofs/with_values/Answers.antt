@@ -2,7 +2,6 @@
 -- the row wanted.
 use mathlib.Core.Path.{sym, ◌∙◌}
 use native.Mathlib.Omega.{arith}
-use Prim.Native.Nat.{◌-◌}
 use Rattle.words.specs.Words.{Bytes}
 use Rattle.working.proofs.Values.{filling-start, filling-done, filling-fits, filling-set, filling-unset}
 use Rattle.working.proofs.with_values.Goals.{then-has_bit, else-has_bit}

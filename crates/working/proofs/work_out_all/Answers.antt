@@ -1,6 +1,5 @@
 -- `working::work_out_all` meets its contract. The loop's invariant: the rows worked out so far, then what those that are left give, are
 -- what all chosen rows give; the room is as it was but for the rows worked out.
-use borrow.Author.Tests.{not-true, not-false}
 use native.Mathlib.Omega.{arith}
 use Rattle.slots.specs.Slots.{table_bytes}
 use Rattle.working.proofs.Rows.{chosen-stands, turning-start, turning-done, turning-failed, turning-stands, turning-sized}

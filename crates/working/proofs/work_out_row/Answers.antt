@@ -1,7 +1,6 @@
 -- `working::work_out_row` meets its contract. The loop's invariant: worked row i, filled from its column on with what the expressions
 -- still to come give over chosen row i, is the row wanted, and nothing else has changed.
 use mathlib.Core.Path.{sym, ap, ◌∙◌}
-use Prim.Native.Nat.{◌-◌}
 use Rattle.words.specs.Words.{sum_meant}
 use Rattle.terms.specs.Terms.{expression_or}
 use Rattle.working.proofs.OneRow.{storing-start, storing-done, storing-bad, storing-unset, storing-out, storing-set}
