@@ -3,7 +3,8 @@
  *
  * One transaction at a time, an image, a rule book and a log come in; an outcome and an image come out. The
  * library is crates/mordashun_c/out/libmordashun_c.a, which `rt lib` in crates/mordashun_c proves and writes for
- * x86-64 Linux. It needs memcpy and memset and nothing else, allocates nothing, and keeps nothing between calls.
+ * x86-64 Linux. It needs memcpy, memmove and memset and nothing else, allocates nothing, and keeps nothing
+ * between calls.
  *
  * That each function does what is said here is proved (crates/mordashun_c), of callers that keep these duties,
  * which nothing tests:
