@@ -1,4 +1,5 @@
 -- `book::action_at` meets its contract: the kind's byte chooses among the layouts, and no other kind is read.
+use native.Mathlib.Omega.{arith}
 use borrow.Author.Rules.{rules}
 use borrow.Author.Tests.{ne_eqb}
 use mathlib.Core.Path.{sym}
@@ -36,4 +37,4 @@ unfolding action_or action action_of
 returns-in_default c =
     sym
     (none-chosen (action_of c.args.triggers) c.byte-kind.ensures
-    (rw (ne_eqb _ 0 c.in_default.in_default-own.rest.0.0.0.0.1, ne_eqb _ 1 c.in_default.in_default-own.rest.0.0.0.1, ne_eqb _ 2 c.in_default.in_default-own.rest.0.0.1, ne_eqb _ 3 c.in_default.in_default-own.rest.0.1, ne_eqb _ 4 c.in_default.in_default-own.rest.1)))
+    (rw (ne_eqb c.byte-kind.result 0 (omega arith), ne_eqb c.byte-kind.result 1 (omega arith), ne_eqb c.byte-kind.result 2 (omega arith), ne_eqb c.byte-kind.result 3 (omega arith), ne_eqb c.byte-kind.result 4 (omega arith))))

@@ -1,4 +1,5 @@
 -- `book::actions_at` meets its contract: a number of actions from 1 to 4, and the actions.
+use native.Mathlib.Omega.{arith}
 use borrow.Author.Rules.{rules}
 use mathlib.Core.Path.{sym, ◌∙◌}
 use Prim.Native.Nat.{◌+◌}
@@ -25,8 +26,8 @@ returns-in-Short c =
 
 pub returns-in_default : goal.returns-in_default
 unfolding actions_or ByteLayouts.actions
-returns-in_default c = rw (looked-below c.byte-count.ensures 1 4 c.in_default.if-count-lt1-own.true)
+returns-in_default c = rw (looked-below c.byte-count.ensures 1 4 (omega arith))
 
 pub returns-in_default-2 : goal.returns-in_default-2
 unfolding actions_or ByteLayouts.actions
-returns-in_default-2 c = rw (looked-above c.byte-count.ensures 1 4 c.in_default.if-count-lt5-own.false)
+returns-in_default-2 c = rw (looked-above c.byte-count.ensures 1 4 (omega arith))

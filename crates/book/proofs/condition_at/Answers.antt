@@ -27,4 +27,4 @@ returns-in-Bad c =
 pub returns-in_default : goal.returns-in_default
 unfolding condition_or condition
 returns-in_default c =
-    rw (looked-above c.byte-given.ensures 0 1 (omega (arith, c.in_default.in_default-own.rest.0.1, c.in_default.in_default-own.rest.1)))
+    rw (looked-above c.byte-given.ensures 0 1 (omega arith))

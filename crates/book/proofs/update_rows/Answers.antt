@@ -50,10 +50,10 @@ pub returns-in_default : goal.returns-in_default
 unfolding action_or update_rows mask
 returns-in_default c =
     rw (table-looked c.byte-table.ensures c.if-table-gt3.false)
-    (rw (looked-below c.byte-mask.ensures 1 15 c.in_default.if-mask-lt1-own.true))
+    (rw (looked-below c.byte-mask.ensures 1 15 (omega arith)))
 
 pub returns-in_default-2 : goal.returns-in_default-2
 unfolding action_or update_rows mask
 returns-in_default-2 c =
     rw (table-looked c.byte-table.ensures c.if-table-gt3.false)
-    (rw (looked-above c.byte-mask.ensures 1 15 c.in_default.if-mask-lt16-own.false))
+    (rw (looked-above c.byte-mask.ensures 1 15 (omega arith)))

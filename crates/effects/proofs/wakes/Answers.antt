@@ -1,4 +1,5 @@
 -- `effects::wakes` meets its contract: another table's slot wakes no rule, and of its own table's the kind says what to ask.
+use native.Mathlib.Omega.{arith}
 use mathlib.Core.Path.{sym, ◌∙◌}
 use Rattle.effects.proofs.Waking.{wakes-other, wakes-inserted, wakes-deleted, wakes-updated, wakes-not-updated, wakes-nothing}
 use Rattle.effects.proofs.wakes.Goals as goal
@@ -26,4 +27,4 @@ returns-else-has_bit c =
 
 pub returns-in_default : goal.returns-in_default
 returns-in_default c =
-    wakes-nothing _ _ c.in_default.in_default-own.rest.0.0.1 c.in_default.in_default-own.rest.0.1 c.in_default.in_default-own.rest.1
+    wakes-nothing _ _ (omega arith) (omega arith) (omega arith)

@@ -1,5 +1,4 @@
 -- `mordashun_c::mordashun_check` meets its contract: the engine's answer is the specification's, and the word is that of the answer.
-use borrow.Author.Rules.{rules}
 use Rattle.engine.specs.Answers.{check_meant}
 use Rattle.mordashun_c.specs.Answered.{check_word}
 use Rattle.mordashun_c.proofs.Few.{checks-few}

@@ -1,4 +1,5 @@
 -- `slots::remove_at` meets its contract: the slots after the place move down to it, and the size counts one less.
+use borrow.Author.Rules.{rules}
 use Prim.Native.Nat.{◌<◌}
 use native.Mathlib.Omega.{arith}
 use Rattle.words.proofs.Laws.{low32-lt}
@@ -10,7 +11,7 @@ use Rattle.slots.proofs.remove_at.Goals as goal
 pub returns : goal.returns
 unfolding table_bytes
 returns c =
-    let small : c.size-n.result < 4294967296 = rw c.size-n.ensures (low32-lt _ (λ k. (c.slice_known-1.given k).fits) _) in
+    let small : c.size-n.result < 4294967296 = rw c.size-n.ensures (low32-lt _ (search rules) _) in
     removed _ _ _ _ c.requires.stands c.size-n.ensures (omega arith) c.move_down.ensures
     (word-put _ _ (omega arith) (omega arith) c.put_low32.ensures)
 
@@ -36,7 +37,7 @@ move_down-requires c = omega arith
 
 pub overflow_cast-n : goal.overflow_cast-n
 overflow_cast-n c =
-    let small : c.size-n.result < 4294967296 = rw c.size-n.ensures (low32-lt _ (λ k. (c.slice_known-1.given k).fits) _) in
+    let small : c.size-n.result < 4294967296 = rw c.size-n.ensures (low32-lt _ (search rules) _) in
     omega arith
 
 pub put_low32-requires : goal.put_low32-requires

@@ -1,4 +1,5 @@
 -- `terms::expression_at` meets its contract: the kind's byte chooses among three layouts, and no other kind is read.
+use native.Mathlib.Omega.{arith}
 use borrow.Author.Rules.{rules}
 use borrow.Author.Tests.{ne_eqb}
 use mathlib.Core.Path.{sym}
@@ -26,4 +27,4 @@ pub returns-in_default : goal.returns-in_default
 unfolding expression_or expression expression_of
 returns-in_default c =
     sym
-    (none-chosen expression_of c.byte-kind.ensures (rw (ne_eqb _ 0 c.in_default.in_default-own.rest.0.0.1, ne_eqb _ 1 c.in_default.in_default-own.rest.0.1, ne_eqb _ 2 c.in_default.in_default-own.rest.1)))
+    (none-chosen expression_of c.byte-kind.ensures (rw (ne_eqb c.byte-kind.result 0 (omega arith), ne_eqb c.byte-kind.result 1 (omega arith), ne_eqb c.byte-kind.result 2 (omega arith))))

@@ -39,10 +39,10 @@ pub returns-in_default : goal.returns-in_default
 unfolding term_or ByteLayouts.matching
 returns-in_default c =
     rw (source-admitted c.args.triggers _ c.source_fits.ensures c.byte-source.ensures c.if-not-source_fits.false)
-    (rw (looked-below c.byte-count.ensures 1 4 c.in_default.if-count-lt1-own.true))
+    (rw (looked-below c.byte-count.ensures 1 4 (omega arith)))
 
 pub returns-in_default-2 : goal.returns-in_default-2
 unfolding term_or ByteLayouts.matching
 returns-in_default-2 c =
     rw (source-admitted c.args.triggers _ c.source_fits.ensures c.byte-source.ensures c.if-not-source_fits.false)
-    (rw (looked-above c.byte-count.ensures 1 4 c.in_default.if-count-lt5-own.false))
+    (rw (looked-above c.byte-count.ensures 1 4 (omega arith)))

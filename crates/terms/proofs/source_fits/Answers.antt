@@ -1,4 +1,5 @@
 -- `terms::source_fits` meets its contract: a table always fits, each of 4..7 by its bit of the triggers, and nothing above.
+use native.Mathlib.Omega.{arith}
 use borrow.Author.Tests.{lt-ltb, le-ltb, ne_eqb}
 use mathlib.Core.Bool.{Bool, true, false, ◌||◌}
 use mathlib.Core.Path.{◌≡◌, refl, ◌∙◌}
@@ -28,9 +29,9 @@ returns-in-7 c = rw c.in-7.is c.has_bit-in-7.ensures
 
 pub returns-in-0-to-3 : goal.returns-in-0-to-3
 unfolding source_fits
-returns-in-0-to-3 c = rw (lt-ltb _ 4 c.in-0-to-3.if-n-lt4-own.true)
+returns-in-0-to-3 c = rw (lt-ltb c.args.n 4 (omega arith))
 
 pub returns-in_default : goal.returns-in_default
 unfolding source_fits
 returns-in_default c =
-    rw (le-ltb _ 4 c.in_default.if-n-lt4-own.false, ne_eqb _ 4 c.in_default.in_default-own.rest.0.0.0.1, ne_eqb _ 5 c.in_default.in_default-own.rest.0.0.1, ne_eqb _ 6 c.in_default.in_default-own.rest.0.1, ne_eqb _ 7 c.in_default.in_default-own.rest.1)
+    rw (le-ltb c.args.n 4 (omega arith), ne_eqb c.args.n 4 (omega arith), ne_eqb c.args.n 5 (omega arith), ne_eqb c.args.n 6 (omega arith), ne_eqb c.args.n 7 (omega arith))

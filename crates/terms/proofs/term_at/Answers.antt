@@ -1,4 +1,5 @@
 -- `terms::term_at` meets its contract: the operator's byte chooses among the layouts, and no other operator is read.
+use native.Mathlib.Omega.{arith}
 use borrow.Author.Rules.{rules}
 use borrow.Author.Tests.{lt-ltb, le-ltb, ne_eqb}
 use mathlib.Core.Path.{sym}
@@ -21,17 +22,17 @@ pub returns-in-0-to-5 : goal.returns-in-0-to-5
 unfolding term term_of
 returns-in-0-to-5 c =
     rw (byte-looked c.byte-op.ensures (search rules))
-    (rw (lt-ltb _ 6 c.in-0-to-5.if-op-lt6-own.true) c.against_constant.ensures)
+    (rw (lt-ltb c.byte-op.result 6 (omega arith)) c.against_constant.ensures)
 
 pub returns-in-6-to-11 : goal.returns-in-6-to-11
 unfolding term term_of
 returns-in-6-to-11 c =
     rw (byte-looked c.byte-op.ensures (search rules))
-    (rw (le-ltb _ 6 c.in-6-to-11.if-op-lt6-own.false, lt-ltb _ 12 c.in-6-to-11.if-op-lt12-own.true) c.against_column.ensures)
+    (rw (le-ltb c.byte-op.result 6 (omega arith), lt-ltb c.byte-op.result 12 (omega arith)) c.against_column.ensures)
 
 pub returns-in_default : goal.returns-in_default
 unfolding term_or term term_of
 returns-in_default c =
     sym
     (none-chosen (term_of c.args.triggers) c.byte-op.ensures
-    (rw (le-ltb _ 6 c.in_default.if-op-lt6-own.false, le-ltb _ 12 c.in_default.if-op-lt12-own.false, ne_eqb _ 12 c.in_default.in_default-own.rest.0.1, ne_eqb _ 13 c.in_default.in_default-own.rest.1)))
+    (rw (le-ltb c.byte-op.result 6 (omega arith), le-ltb c.byte-op.result 12 (omega arith), ne_eqb c.byte-op.result 12 (omega arith), ne_eqb c.byte-op.result 13 (omega arith))))

@@ -34,5 +34,5 @@ returns-in_default c =
     split (ltb c.args.at (length c.args.s.now))
     (λ e.
     rw (byte-read c.args.s.now bytes c.args.at (ltb-true c.args.at (length c.args.s.now) e), ← c.byte-kind.ensures.is)
-    (rw (ne_eqb _ 1 c.in_default.in_default-own.rest.0.0.1, ne_eqb _ 2 c.in_default.in_default-own.rest.0.1, ne_eqb _ 3 c.in_default.in_default-own.rest.1)))
+    (rw (ne_eqb c.byte-kind.result 1 (omega arith), ne_eqb c.byte-kind.result 2 (omega arith), ne_eqb c.byte-kind.result 3 (omega arith))))
     (λ e. rw (byte-short c.args.s.now c.args.at (ltb-false c.args.at (length c.args.s.now) e)))

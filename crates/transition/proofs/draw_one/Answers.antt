@@ -1,5 +1,6 @@
 -- `transition::draw_one` meets its contract: each kind of effect shows its rows in its own tables, and no other number is a kind that
 -- shows any.
+use native.Mathlib.Omega.{arith}
 use mathlib.Core.Path.{sym, ◌∙◌}
 use Rattle.room.specs.Room.{watch_rule, live_rows}
 use Rattle.transition.specs.Shown.{slot_in}
@@ -52,4 +53,4 @@ returns-in-3 c = c.draw_updated.ensures
 pub returns-in_default : goal.returns-in_default
 returns-in_default c =
     shown-nowhere c.requires.room_for_all
-    (tells-nothing _ _ _ (λ q. c.in_default.in_default-own.rest.0.0.1 (c.kind_at-kind.ensures ∙ q)) (λ q. c.in_default.in_default-own.rest.0.1 (c.kind_at-kind.ensures ∙ q)) (λ q. c.in_default.in_default-own.rest.1 (c.kind_at-kind.ensures ∙ q)))
+    (tells-nothing _ _ _ (λ q. omega arith) (λ q. omega arith) (λ q. omega arith))

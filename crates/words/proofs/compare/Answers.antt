@@ -1,4 +1,5 @@
 -- `words::compare` meets its contract: lifted words have the order of the values.
+use native.Mathlib.Omega.{arith}
 use borrow.Author.Rules.{rules}
 use borrow.Author.Tests.{ne_eqb}
 use Rattle.meaning.specs.ByteLayouts.{comparison}
@@ -37,5 +38,5 @@ returns-in-4 c =
 pub returns-in_default : goal.returns-in_default
 unfolding values_compare comparison
 returns-in_default c =
-    rw (ne_eqb _ 0 c.in_default.in_default-own.rest.0.0.0.0.1, ne_eqb _ 1 c.in_default.in_default-own.rest.0.0.0.1, ne_eqb _ 2 c.in_default.in_default-own.rest.0.0.1, ne_eqb _ 3 c.in_default.in_default-own.rest.0.1, ne_eqb _ 4 c.in_default.in_default-own.rest.1)
+    rw (ne_eqb c.args.op 0 (omega arith), ne_eqb c.args.op 1 (omega arith), ne_eqb c.args.op 2 (omega arith), ne_eqb c.args.op 3 (omega arith), ne_eqb c.args.op 4 (omega arith))
     (rw (signed_le c.args.b c.args.a (search rules) (search rules), c.lifted-x.ensures, c.lifted-y.ensures))
