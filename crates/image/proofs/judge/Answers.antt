@@ -1,5 +1,5 @@
 -- `image::judge` meets its contract: a test that fails is one at which the specification refuses the slice, and behind them all the image
--- is taken. In each answer `p1`, `p2`, .. are the places behind the first test, the second, and so on.
+-- is taken.
 use borrow.Author.Tests.{leb-true, leb-false}
 use lib.ListN.{length}
 use mathlib.Core.Path.{sym, ◌∙◌}

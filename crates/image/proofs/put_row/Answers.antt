@@ -1,5 +1,4 @@
--- `image::put_row` meets its contract: stores keep the length, and those of the six fields are the row's bytes at the front. In each answer
--- `one`, .., `five` are the places behind the calls of put32, and `table` the place behind low_byte.
+-- `image::put_row` meets its contract: stores keep the length, and those of the six fields are the row's bytes at the front.
 use native.Mathlib.Omega.{arith}
 use Rattle.image.proofs.Laws.{row-kept1, row-kept2, row-kept3, row-kept4, put-row}
 use Rattle.image.proofs.put_row.Goals as goal

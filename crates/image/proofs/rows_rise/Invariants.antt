@@ -1,6 +1,5 @@
 -- `image::rows_rise` meets its contract. The loop's invariant: what is asked of all the rows is what is asked of those from here on, above
--- the last handle. The measure is the number of rows left. In each answer `top` is the place where a turn begins, and `p1`, `p2`, .. are
--- those behind the tests of the turn.
+-- the last handle. The measure is the number of rows left.
 use mathlib.Core.Path.{◌≡◌}
 use Rattle.meaning.specs.Reading.{many}
 use Rattle.meaning.specs.ByteLayouts as ByteLayouts

@@ -1,5 +1,5 @@
 -- `slots::store` meets its contract: six words one after another are the slot's twenty-four bytes, and each word is read as it was
--- written. That a field of the slot fits its type is what owning the slot tells (`own`, field by field).
+-- written. That a field of the slot fits its type is what its being well formed tells, field by field.
 use native.Mathlib.Omega.{arith}
 use Rattle.slots.proofs.Frames.{Fits, slot-put}
 use Rattle.slots.proofs.store.Goals as goal
