@@ -1,34 +1,21 @@
 -- What the decoders of actions, rules and books answer.
-use Rattle.std.specs.Prelude.{◌≡◌, Bool, List, [], ℕ, ◌+◌, ◌≤◌, eqb, length, if◌then◌else◌}
-use Rattle.std.proofs.Math.Option.{Option, none, some}
+use Rattle.std.specs.Prelude.{◌≡◌, Bool, List, [], ℕ, ◌≤◌, eqb, ltb, length, if◌then◌else◌, Option, Some, None}
+use Rattle.std.proofs.Math.Option.{Option as Maybe, none}
 use Rattle.std.specs.Int.Count.{ones}
 use Rattle.meaning.specs.Base.{bit, within}
 use Rattle.meaning.specs.Reading.{Read, bad, got, on_from, many, read_all}
 use Rattle.meaning.specs.Covers as Covers
 use Rattle.meaning.specs.ByteLayouts as ByteLayouts
 use Rattle.meaning.specs.EntryPoints.{first_rule}
-use Rattle.words.specs.Words.{readable}
+use Rattle.words.specs.Words.{option_as, read_as, readable}
 use Rattle.fields.specs.Fields.{values_at}
 use Rattle.terms.specs.Terms.{terms_meant, query_meant}
 use Rattle.book.specs.declared.Action.{Action}
 use Rattle.book.specs.declared.Action.TheVariants as action
-use Rattle.book.specs.declared.ActionRead.{ActionRead}
-use Rattle.book.specs.declared.ActionRead.TheVariants as action_read
-use Rattle.book.specs.declared.Condition.{Condition}
-use Rattle.book.specs.declared.Condition.TheVariants as condition
-use Rattle.book.specs.declared.ConditionRead.{ConditionRead}
-use Rattle.book.specs.declared.ConditionRead.TheVariants as condition_read
 use Rattle.book.specs.declared.Actions.{Actions}
-use Rattle.book.specs.declared.ActionsRead.{ActionsRead}
-use Rattle.book.specs.declared.ActionsRead.TheVariants as actions_read
 use Rattle.book.specs.declared.Head.{Head}
-use Rattle.book.specs.declared.HeadRead.{HeadRead}
-use Rattle.book.specs.declared.HeadRead.TheVariants as head_read
 use Rattle.book.specs.declared.Rule.{Rule}
-use Rattle.book.specs.declared.RuleRead.{RuleRead}
-use Rattle.book.specs.declared.RuleRead.TheVariants as rule_read
-use Rattle.book.specs.declared.BookRead.{BookRead}
-use Rattle.book.specs.declared.BookRead.TheVariants as book_read
+use Rattle.book.specs.declared.Frame.{Frame}
 
 -- n expressions from a place on
 unfoldable pub expressions_at : List ℕ → ℕ → ℕ → List Covers.Expression
@@ -44,31 +31,27 @@ action_meant s triggers (action.Delete table terms) = Covers.Action.delete_rows 
 action_meant s triggers (action.Update table mask expressions terms) =
     Covers.Action.update_rows table mask (expressions_at s (ones mask) expressions) (terms_meant s triggers terms)
 
-unfoldable pub action_or : List ℕ → ℕ → ActionRead → Read Covers.Action
-action_or s triggers action_read.Bad = bad
-action_or s triggers (action_read.Is a next) = got (action_meant s triggers a) next
+unfoldable pub action_or : List ℕ → ℕ → Option (Action × ℕ) → Read Covers.Action
+action_or s triggers = read_as (action_meant s triggers)
 
-unfoldable pub condition_meant : List ℕ → ℕ → Condition → Option Covers.Query
-condition_meant s triggers condition.Absent = none
-condition_meant s triggers (condition.Holds query) = some (query_meant s triggers query)
+unfoldable pub condition_meant : List ℕ → ℕ → Option Query → Maybe Covers.Query
+condition_meant s triggers = option_as (query_meant s triggers)
 
-unfoldable pub condition_or : List ℕ → ℕ → ConditionRead → Read (Option Covers.Query)
-condition_or s triggers condition_read.Bad = bad
-condition_or s triggers (condition_read.Is c next) = got (condition_meant s triggers c) next
+unfoldable pub condition_or : List ℕ → ℕ → Option (Option Query × ℕ) → Read (Maybe Covers.Query)
+condition_or s triggers = read_as (condition_meant s triggers)
 
 unfoldable pub actions_meant : List ℕ → ℕ → Actions → List Covers.Action
 actions_meant s triggers a = readable a.count (ByteLayouts.action triggers) s a.first
 
-unfoldable pub actions_or : List ℕ → ℕ → ActionsRead → Read (List Covers.Action)
-actions_or s triggers actions_read.Bad = bad
-actions_or s triggers (actions_read.Is a next) = got (actions_meant s triggers a) next
+unfoldable pub actions_or : List ℕ → ℕ → Option (Actions × ℕ) → Read (List Covers.Action)
+actions_or s triggers = read_as (actions_meant s triggers)
 
 -- a mask 1..15 if bit 2 of the triggers is set, else 0
 unfoldable pub columns_fit : ℕ → ℕ → Bool
 columns_fit triggers columns = if bit triggers 2 then within 1 15 columns else eqb columns 0
 
 -- a rule from its head, its condition and its actions
-unfoldable pub rule_of : Head → Option Covers.Query → List Covers.Action → Covers.Rule
+unfoldable pub rule_of : Head → Maybe Covers.Query → List Covers.Action → Covers.Rule
 rule_of h condition actions =
     record {
       active = h.active;
@@ -84,30 +67,32 @@ rule_of h condition actions =
 unfoldable pub head_rule : Head → Covers.Rule
 head_rule h = rule_of h none []
 
--- the rule at a place whose head was read: condition and actions follow
-unfoldable pub head_then : List ℕ → ℕ → HeadRead → Read Covers.Rule
-head_then s at head_read.Bad = bad
-head_then s at (head_read.Is h) =
-    on_from (ByteLayouts.condition h.triggers s (at + 1 + 1 + 1 + 1 + 2)) (λ q next.
+-- the rule whose head was read: condition and actions follow
+unfoldable pub head_then : List ℕ → Option (Head × ℕ) → Read Covers.Rule
+head_then s None = bad
+head_then s (Some (h, after)) =
+    on_from (ByteLayouts.condition h.triggers s after) (λ q next.
     on_from (ByteLayouts.actions h.triggers s next) (λ acts end. got (rule_of h q acts) end))
 
--- where a head at a place ends
-unfoldable pub head_end : ℕ → HeadRead → ℕ
-head_end at head_read.Bad = 0
-head_end at (head_read.Is h) = at + 6
+-- where a head ends
+unfoldable pub head_end : Option (Head × ℕ) → ℕ
+head_end None = 0
+head_end (Some (h, after)) = after
 
 -- the rule that is meant, its condition and actions read where they stand
 unfoldable pub rule_meant : List ℕ → Rule → Covers.Rule
 rule_meant s r =
     rule_of r.head (condition_meant s r.head.triggers r.condition) (actions_meant s r.head.triggers r.actions)
 
-unfoldable pub rule_or : List ℕ → RuleRead → Read Covers.Rule
-rule_or s rule_read.Bad = bad
-rule_or s (rule_read.Is r next) = got (rule_meant s r) next
+unfoldable pub rule_or : List ℕ → Option (Rule × ℕ) → Read Covers.Rule
+rule_or s = read_as (rule_meant s)
 
-unfoldable pub book_or : List ℕ → BookRead → Option Covers.Book
-book_or s book_read.Bad = none
-book_or s (book_read.Is limit count) = some (record { limit = limit; rules = readable count (ByteLayouts.rule count) s first_rule })
+-- the book that is meant: its rules are those that can be read
+unfoldable pub book_meant : List ℕ → Frame → Covers.Book
+book_meant s f = record { limit = f.limit; rules = readable f.count (ByteLayouts.rule f.count) s first_rule }
+
+unfoldable pub book_or : List ℕ → Option Frame → Maybe Covers.Book
+book_or s = option_as (book_meant s)
 
 -- the slice is a well-formed book, with this step limit and so many rules, which stand one after another up to its end
 pub record WellFormed (s : List ℕ) (limit count : ℕ) : Type 0 where
@@ -116,6 +101,25 @@ pub record WellFormed (s : List ℕ) (limit count : ℕ) : Type 0 where
   pub book : read_all ByteLayouts.book s ≡ some (record { limit = limit; rules = readable count (ByteLayouts.rule count) s 8 })
 
 -- what an answer tells of the slice, its rule count too: a well-formed book, or nothing
-abbrev pub Told : List ℕ → BookRead → Type 0
-Told s book_read.Bad = Unit {0}
-Told s (book_read.Is limit count) = WellFormed s limit count
+abbrev pub Told : List ℕ → Option Frame → Type 0
+Told s None = Unit {0}
+Told s (Some f) = WellFormed s f.limit f.count
+
+-- from a place up to where a value ends that was read there
+unfoldable pub span_to : {A : Type 0} → ℕ → Read A → Option (ℕ × ℕ)
+span_to start bad = None
+span_to start (got a end) = Some (start, end)
+
+-- the rule after those that were read
+unfoldable pub span_after : {A : Type 0} → List ℕ → ℕ → Read A → Option (ℕ × ℕ)
+span_after s n bad = None
+span_after s n (got a start) = span_to start (ByteLayouts.rule n s start)
+
+-- where rule k of a book of n rules stands
+abbrev pub rule_span : List ℕ → ℕ → ℕ → Option (ℕ × ℕ)
+rule_span s n k = if ltb k n then span_after s n (many k (ByteLayouts.rule n) s first_rule) else None
+
+-- it stands in the slice
+pub record SpanInside (s : List ℕ) (span : ℕ × ℕ) : Type 0 where
+  pub rises : span.0 ≤ span.1
+  pub ends : span.1 ≤ length s

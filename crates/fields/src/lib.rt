@@ -7,8 +7,6 @@ ghost use Rattle.meaning.specs.ByteLayouts.{value};
 ghost use Rattle.words.specs.Words.{end_of};
 ghost use Rattle.fields.specs.Fields.{well_framed};
 
-use words::End;
-
 // Where the fields begin: after the length and the version.
 pub const FIELDS: usize = 5;
 
@@ -27,16 +25,12 @@ pub fn well_framed(s: &[u8]) -> bool
 }
 
 // Where n values end: none of them end where they begin, past the slice too.
-pub fn values_end(s: &[u8], at: usize, n: usize) -> End
+pub fn values_end(s: &[u8], at: usize, n: usize) -> Option<usize>
     requires { n ≤ 4 }
     ensures { result ≡ end_of (many n value s.now at) }
 {
-    if n == 0 {
-        return End::At(at);
+    if n != 0 && !words::has(s, at, n * 4) {
+        return None;
     }
-    if words::has(s, at, n * 4) {
-        End::At(at + n * 4)
-    } else {
-        End::Short
-    }
+    Some(at + n * 4)
 }

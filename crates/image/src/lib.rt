@@ -19,10 +19,11 @@ pub struct Row {
     pub v3: u32,
 }
 
+// What a well-formed image has beside its rows: the next handle, and how many rows there are.
 #[derive(Clone, Copy)]
-pub enum ImageRead {
-    Is { next: u32, count: usize },
-    Bad,
+pub struct Head {
+    pub next: u32,
+    pub count: usize,
 }
 
 // At most 64 rows of 21 bytes, which stand after the row count.
@@ -51,10 +52,9 @@ pub fn row_at(s: &[u8], at: usize) -> Row
 fn rows_rise(s: &[u8], at: usize, n: usize, low: u32, high: u32) -> bool
     ensures { result ≡ rise_in low high (many n ByteLayouts.row s.now at) }
 {
-    let mut left = n;
     let mut here = at;
     let mut last = low;
-    while 0 < left {
+    for _ in 0..n {
         if !words::has(s, here, ROW) {
             return false;
         }
@@ -70,38 +70,33 @@ fn rows_rise(s: &[u8], at: usize, n: usize, low: u32, high: u32) -> bool
         }
         last = r.handle;
         here += ROW;
-        left -= 1;
     }
     true
 }
 
-// The next handle and the number of rows, where the image is well formed.
-pub fn judge(s: &[u8]) -> ImageRead
+// The head of an image, where it is well formed.
+pub fn judge(s: &[u8]) -> Option<Head>
     ensures result_value { image_or s.now result ≡ read_all ByteLayouts.image s.now }
     ensures told { Told s.now result }
 {
     if !fields::well_framed(s) {
-        return ImageRead::Bad;
+        return None;
     }
-    if !words::has(s, fields::FIELDS, 6) {
-        return ImageRead::Bad;
-    }
-    let next = words::word32(s, fields::FIELDS);
+    let (next, after) = words::number32(s, fields::FIELDS)?;
     if next < 1 {
-        return ImageRead::Bad;
+        return None;
     }
-    let count = words::word16(s, fields::FIELDS + 4);
+    let (count, first) = words::number16(s, after)?;
     if ROWS < count {
-        return ImageRead::Bad;
+        return None;
     }
-    if s.len() != FIRST + count * ROW {
-        return ImageRead::Bad;
+    if s.len() != first + count * ROW {
+        return None;
     }
-    if rows_rise(s, FIRST, count, 0, next) {
-        ImageRead::Is { next, count }
-    } else {
-        ImageRead::Bad
+    if !rows_rise(s, first, count, 0, next) {
+        return None;
     }
+    Some(Head { next, count })
 }
 
 fn low_byte(n: usize) -> u8

@@ -1,19 +1,16 @@
 -- What the answers of the order's builder, and of its parts, mean.
-use Rattle.std.specs.Prelude.{Bool, false, ◌&&◌, ◌||◌, not, List, ◌≡◌, ℕ, ◌<◌, take, get_or, if◌then◌else◌}
-use Rattle.std.proofs.Math.Option.{Option, none, some}
+use Rattle.std.specs.Prelude.{Bool, false, ◌&&◌, ◌||◌, not, List, ◌≡◌, ℕ, ◌<◌, take, get_or, Option}
+use Rattle.std.proofs.Math.Option.{Option as Maybe}
 use Rattle.meaning.specs.Base.{bit, all, up_from}
-use Rattle.order.specs.declared.Order.{Order}
-use Rattle.order.specs.declared.ReadyRule.{ReadyRule}
-use Rattle.order.specs.declared.ReadyRule.TheVariants.{At, Nothing}
+use Rattle.words.specs.Words.{option_as}
 
 -- the first n numbers, where an order was found
-unfoldable pub order_meant : ℕ → Order → Option (List ℕ)
-order_meant n r = if r.found then some (take n r.rules) else none
+unfoldable pub order_meant : ℕ → Option (List ℕ) → Maybe (List ℕ)
+order_meant n = option_as (take n)
 
 -- the rule's number, where one was found
-unfoldable pub ready_meant : ReadyRule → Option ℕ
-ready_meant (At j) = some j
-ready_meant Nothing = none
+unfoldable pub ready_meant : Option ℕ → Maybe ℕ
+ready_meant = option_as (λ j. j)
 
 -- `mask` has bit i for each rule i of n that precedes rule j
 pub record MaskOf (precedes : List ℕ) (n j mask : ℕ) : Type 0 where

@@ -7,29 +7,13 @@ ghost use Rattle.meaning.specs.Base.{first_with, up_from};
 ghost use Rattle.meaning.specs.Processing.TotalOrder.{order_of};
 ghost use Rattle.order.specs.Order.{order_meant, ready_meant, MaskOf, MasksOf, passed, all_passed, may_go};
 
-// The rules' numbers in total order at the front, where one was found.
-#[derive(Clone, Copy)]
-pub struct Order {
-    pub found: bool,
-    pub rules: [u8; 16],
-}
-
-// The rule to take next, where one is ready.
-#[derive(Clone, Copy)]
-enum ReadyRule {
-    At(usize),
-    Nothing,
-}
-
 // The mask of the rules that precede rule j, built from its highest bit down.
 fn predecessors_of(precedes: [usize; 16], n: usize, j: usize) -> usize
     requires { (n ≤ 16) × (j < 16) }
     ensures { MaskOf precedes n j result }
 {
-    let mut mask: usize = 0;
-    let mut i = n;
-    while 0 < i {
-        i -= 1;
+    let mut mask = 0;
+    for i in (0..n).rev() {
         mask = mask * 2 + words::bit_at(precedes[i], j);
     }
     mask
@@ -40,11 +24,9 @@ fn predecessors(precedes: [usize; 16], n: usize) -> [usize; 16]
     requires { n ≤ 16 }
     ensures { MasksOf precedes n result }
 {
-    let mut masks: [usize; 16] = [0; 16];
-    let mut j: usize = 0;
-    while j < n {
+    let mut masks = [0; 16];
+    for j in 0..n {
         masks[j] = predecessors_of(precedes, n, j);
-        j += 1;
     }
     masks
 }
@@ -54,10 +36,7 @@ fn is_passed(mask: usize, taken: [bool; 16], i: usize) -> bool
     requires { i < 16 }
     ensures { result ≡ passed mask taken i }
 {
-    if words::has_bit(mask, i) {
-        return taken[i];
-    }
-    true
+    !words::has_bit(mask, i) || taken[i]
 }
 
 // All of these predecessors are taken.
@@ -65,15 +44,7 @@ fn all_passed(mask: usize, taken: [bool; 16], n: usize) -> bool
     requires { n ≤ 16 }
     ensures { result ≡ all_passed mask taken n }
 {
-    let mut left = n;
-    while 0 < left {
-        let i = n - left;
-        if !is_passed(mask, taken, i) {
-            return false;
-        }
-        left -= 1;
-    }
-    true
+    (0..n).all(|i| is_passed(mask, taken, i))
 }
 
 // Rule j is not taken, and all of its predecessors are.
@@ -81,48 +52,30 @@ fn is_ready(masks: [usize; 16], taken: [bool; 16], n: usize, j: usize) -> bool
     requires { (n ≤ 16) × (j < 16) }
     ensures { result ≡ may_go masks taken n j }
 {
-    if taken[j] {
-        return false;
-    }
-    all_passed(masks[j], taken, n)
+    !taken[j] && all_passed(masks[j], taken, n)
 }
 
 // The lowest-numbered rule that is ready.
-fn next_ready(masks: [usize; 16], taken: [bool; 16], n: usize) -> ReadyRule
+fn next_ready(masks: [usize; 16], taken: [bool; 16], n: usize) -> Option<usize>
     requires { n ≤ 16 }
     ensures { ready_meant result ≡ first_with (may_go masks taken n) (up_from 0 n) }
 {
-    let mut left = n;
-    while 0 < left {
-        let j = n - left;
-        if is_ready(masks, taken, n, j) {
-            return ReadyRule::At(j);
-        }
-        left -= 1;
-    }
-    ReadyRule::Nothing
+    (0..n).find(|&j| is_ready(masks, taken, n, j))
 }
 
-// precedes: for each rule of n the mask of the rules that it precedes.
-pub fn total_order(precedes: [usize; 16], n: usize) -> Order
+// The rules' numbers in total order at the front, where there is one. precedes: for each rule of n the mask of the rules that it
+// precedes.
+pub fn total_order(precedes: [usize; 16], n: usize) -> Option<[u8; 16]>
     requires { n ≤ 16 }
     ensures { order_meant n result ≡ order_of (take n precedes) }
 {
     let masks = predecessors(precedes, n);
-    let mut taken: [bool; 16] = [false; 16];
-    let mut rules: [u8; 16] = [0; 16];
-    let mut left = n;
-    while 0 < left {
-        let next = next_ready(masks, taken, n);
-        let ReadyRule::At(j) = next else {
-            return Order {
-                found: false,
-                rules,
-            };
-        };
+    let mut taken = [false; 16];
+    let mut rules = [0; 16];
+    for rank in 0..n {
+        let j = next_ready(masks, taken, n)?;
         taken[j] = true;
-        rules[n - left] = j as u8;
-        left -= 1;
+        rules[rank] = j as u8;
     }
-    Order { found: true, rules }
+    Some(rules)
 }

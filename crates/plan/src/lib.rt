@@ -8,11 +8,10 @@ ghost use Rattle.meaning.specs.ByteLayouts as ByteLayouts;
 ghost use Rattle.book.specs.Books.{head_rule};
 ghost use Rattle.plan.specs.Plans.{rules_in, OutlineOf, Outlined, Planned};
 
-use book::{Rule, RuleRead};
-use order::Order;
+use book::Rule;
 
 // `tables` has the own table of each rule, INACTIVE for a rule that is not active, and ABSENT past the last rule. `triggers` and `columns`
-// have those of each rule, and 0 past the last.
+// have those of each rule, and 0 past the last. `order` has the rules' numbers in total order, where `precedes` has no cycle.
 #[derive(Clone, Copy)]
 pub struct Plan {
     pub count: usize,
@@ -20,7 +19,7 @@ pub struct Plan {
     pub tables: [u8; 16],
     pub triggers: [u8; 16],
     pub columns: [u8; 16],
-    pub order: Order,
+    pub order: Option<[u8; 16]>,
 }
 
 pub const INACTIVE: u8 = 4;
@@ -63,8 +62,8 @@ fn outline_at(s: &[u8], n: usize, at: usize) -> Outline
     ensures { Outlined (ByteLayouts.rule n s.now at) result }
 {
     match book::rule_at(s, n, at) {
-        RuleRead::Is { rule, next } => outline_of(rule, next),
-        RuleRead::Bad => Outline {
+        Some((rule, next)) => outline_of(rule, next),
+        None => Outline {
             table: INACTIVE,
             triggers: 0,
             columns: 0,
@@ -80,23 +79,20 @@ pub fn plan_of(s: &[u8], n: usize) -> Plan
     requires s_value { many n (ByteLayouts.rule n) s.now 8 ≡ got (rules_in s.now n) (length s.now) }
     ensures { Planned s.now n result }
 {
-    let mut starts: [usize; 16] = [0; 16];
-    let mut tables: [u8; 16] = [ABSENT; 16];
-    let mut triggers: [u8; 16] = [0; 16];
-    let mut columns: [u8; 16] = [0; 16];
-    let mut masks: [usize; 16] = [0; 16];
+    let mut starts = [0; 16];
+    let mut tables = [ABSENT; 16];
+    let mut triggers = [0; 16];
+    let mut columns = [0; 16];
+    let mut masks = [0; 16];
     let mut here = book::FIRST;
-    let mut left = n;
-    while 0 < left {
+    for k in 0..n {
         let rule = outline_at(s, n, here);
-        let k = n - left;
         starts[k] = here;
         tables[k] = rule.table;
         triggers[k] = rule.triggers;
         columns[k] = rule.columns;
         masks[k] = rule.precedes;
         here = rule.next;
-        left -= 1;
     }
     let order = order::total_order(masks, n);
     Plan {

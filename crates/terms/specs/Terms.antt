@@ -1,26 +1,18 @@
 -- What the decoders of terms, queries and expressions answer.
-use Rattle.std.specs.Prelude.{Bool, true, false, ◌&&◌, ◌||◌, List, ℕ, eqb, ltb, if◌then◌else◌}
+use Rattle.std.specs.Prelude.{Bool, true, false, ◌&&◌, ◌||◌, List, ℕ, eqb, ltb, if◌then◌else◌, Option}
 use Rattle.meaning.specs.Base.{bit}
-use Rattle.meaning.specs.Reading.{Read, bad, got}
+use Rattle.meaning.specs.Reading.{Read}
 use Rattle.meaning.specs.Values.{signed}
 use Rattle.meaning.specs.Covers as Covers
 use Rattle.meaning.specs.ByteLayouts as ByteLayouts
 use Rattle.meaning.specs.ByteLayouts.{comparison, pair}
-use Rattle.words.specs.Words.{readable}
+use Rattle.words.specs.Words.{read_as, readable}
 use Rattle.terms.specs.declared.Term.{Term}
 use Rattle.terms.specs.declared.Term.TheVariants as term
-use Rattle.terms.specs.declared.TermRead.{TermRead}
-use Rattle.terms.specs.declared.TermRead.TheVariants as term_read
 use Rattle.terms.specs.declared.Terms.{Terms}
-use Rattle.terms.specs.declared.TermsRead.{TermsRead}
-use Rattle.terms.specs.declared.TermsRead.TheVariants as terms_read
 use Rattle.terms.specs.declared.Query.{Query}
-use Rattle.terms.specs.declared.QueryRead.{QueryRead}
-use Rattle.terms.specs.declared.QueryRead.TheVariants as query_read
 use Rattle.terms.specs.declared.Expression.{Expression}
 use Rattle.terms.specs.declared.Expression.TheVariants as expression
-use Rattle.terms.specs.declared.ExpressionRead.{ExpressionRead}
-use Rattle.terms.specs.declared.ExpressionRead.TheVariants as expression_read
 
 -- the row source with a number 0..7
 unfoldable pub source_meant : ℕ → Covers.Source
@@ -35,6 +27,9 @@ unfoldable pub source_fits : ℕ → ℕ → Bool
 source_fits triggers n =
     ltb n 4 || (eqb n 4 && bit triggers 0 || (eqb n 5 && bit triggers 1 || (eqb n 6 && bit triggers 2 || eqb n 7 && bit triggers 2)))
 
+unfoldable pub source_or : Option (ℕ × ℕ) → Read Covers.Source
+source_or = read_as source_meant
+
 -- match or no match
 unfoldable pub match_meant : Bool → Covers.Source → List Covers.Pair → Covers.Term
 match_meant true = Covers.Term.no_match
@@ -46,30 +41,26 @@ term_meant s (term.Constant op column constant) = Covers.Term.constant (comparis
 term_meant s (term.Columns op column other) = Covers.Term.columns (comparison op) column other
 term_meant s (term.Match negated source count pairs) = match_meant negated (source_meant source) (readable count pair s pairs)
 
-unfoldable pub term_or : List ℕ → TermRead → Read Covers.Term
-term_or s term_read.Bad = bad
-term_or s (term_read.Is t next) = got (term_meant s t) next
+unfoldable pub term_or : List ℕ → Option (Term × ℕ) → Read Covers.Term
+term_or s = read_as (term_meant s)
 
 -- count terms from a place on, in a rule with these triggers
 unfoldable pub terms_meant : List ℕ → ℕ → Terms → List Covers.Term
 terms_meant s triggers t = readable t.count (ByteLayouts.term triggers) s t.first
 
-unfoldable pub terms_or : List ℕ → ℕ → TermsRead → Read (List Covers.Term)
-terms_or s triggers terms_read.Bad = bad
-terms_or s triggers (terms_read.Is t next) = got (terms_meant s triggers t) next
+unfoldable pub terms_or : List ℕ → ℕ → Option (Terms × ℕ) → Read (List Covers.Term)
+terms_or s triggers = read_as (terms_meant s triggers)
 
 unfoldable pub query_meant : List ℕ → ℕ → Query → Covers.Query
 query_meant s triggers q = record { source = source_meant q.source; terms = terms_meant s triggers q.terms }
 
-unfoldable pub query_or : List ℕ → ℕ → QueryRead → Read Covers.Query
-query_or s triggers query_read.Bad = bad
-query_or s triggers (query_read.Is q next) = got (query_meant s triggers q) next
+unfoldable pub query_or : List ℕ → ℕ → Option (Query × ℕ) → Read Covers.Query
+query_or s triggers = read_as (query_meant s triggers)
 
 unfoldable pub expression_meant : Expression → Covers.Expression
 expression_meant (expression.Constant constant) = Covers.Expression.fixed (signed constant)
 expression_meant (expression.Column column) = Covers.Expression.column column
 expression_meant (expression.Sum column constant) = Covers.Expression.sum column (signed constant)
 
-unfoldable pub expression_or : ExpressionRead → Read Covers.Expression
-expression_or expression_read.Bad = bad
-expression_or (expression_read.Is e next) = got (expression_meant e) next
+unfoldable pub expression_or : Option (Expression × ℕ) → Read Covers.Expression
+expression_or = read_as expression_meant

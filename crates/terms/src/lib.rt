@@ -3,12 +3,11 @@
 #![tactic(auto)]
 
 ghost use Rattle.std.specs.Prelude.{◌≡◌};
-ghost use Rattle.meaning.specs.Reading.{many};
+ghost use Rattle.meaning.specs.Covers as Covers;
 ghost use Rattle.meaning.specs.ByteLayouts as ByteLayouts;
-ghost use Rattle.words.specs.Words.{end_of};
-ghost use Rattle.terms.specs.Terms.{source_fits, match_meant, term_or, terms_or, query_or, expression_or};
+ghost use Rattle.terms.specs.Terms.{source_fits, source_or, match_meant, term_or, terms_or, query_or, expression_or};
 
-use words::End;
+use words::Layout;
 
 // A term: a column against a constant or a column, or a match whose pairs stand at a place.
 #[derive(Clone, Copy)]
@@ -31,23 +30,11 @@ pub enum Term {
     },
 }
 
-#[derive(Clone, Copy)]
-pub enum TermRead {
-    Is { term: Term, next: usize },
-    Bad,
-}
-
 // A number of terms, and where the first stands.
 #[derive(Clone, Copy)]
 pub struct Terms {
     pub count: usize,
     pub first: usize,
-}
-
-#[derive(Clone, Copy)]
-pub enum TermsRead {
-    Is { terms: Terms, next: usize },
-    Bad,
 }
 
 #[derive(Clone, Copy)]
@@ -57,22 +44,10 @@ pub struct Query {
 }
 
 #[derive(Clone, Copy)]
-pub enum QueryRead {
-    Is { query: Query, next: usize },
-    Bad,
-}
-
-#[derive(Clone, Copy)]
 pub enum Expression {
     Constant(u32),
     Column(usize),
     Sum { column: usize, constant: u32 },
-}
-
-#[derive(Clone, Copy)]
-pub enum ExpressionRead {
-    Is { expression: Expression, next: usize },
-    Bad,
 }
 
 // Whether a rule with these triggers may name a row source: 4 needs bit 0, 5 bit 1, 6 and 7 bit 2.
@@ -89,234 +64,161 @@ pub fn source_fits(triggers: usize, n: usize) -> bool
     }
 }
 
-// Where n pairs of columns end.
-fn pairs_end(s: &[u8], at: usize, n: usize) -> End
-    ensures { result ≡ end_of (many n ByteLayouts.pair s.now at) }
+// A row source that a rule with these triggers may name.
+fn source_at(s: &[u8], triggers: usize, at: usize) -> Option<(usize, usize)>
+    ensures { source_or result ≡ ByteLayouts.source triggers s.now at }
 {
-    let mut left = n;
-    let mut here = at;
-    while 0 < left {
-        if 3 < words::byte(s, here) {
-            return End::Short;
-        }
-        if 3 < words::byte(s, here + 1) {
-            return End::Short;
-        }
-        here = here + 1 + 1;
-        left -= 1;
+    let (source, next) = words::byte_within(s, at, 0, 255)?;
+    if !source_fits(triggers, source) {
+        return None;
     }
-    End::At(here)
+    Some((source, next))
 }
 
-fn against_constant(s: &[u8], triggers: usize, at: usize, op: usize) -> TermRead
+struct Pairs;
+
+impl Layout for Pairs {
+    ghost Value = { Covers.Pair };
+
+    ghost layout = { λ _. ByteLayouts.pair };
+
+    fn end(&self, s: &[u8], at: usize) -> Option<usize> {
+        let (_own, next) = words::byte_within(s, at, 0, 3)?;
+        let (_other, end) = words::byte_within(s, next, 0, 3)?;
+        Some(end)
+    }
+}
+
+fn against_constant(s: &[u8], triggers: usize, at: usize, op: usize) -> Option<(Term, usize)>
     ensures { term_or s.now result ≡ ByteLayouts.against_constant triggers op s.now at }
 {
-    let column = words::byte(s, at);
-    if 3 < column {
-        return TermRead::Bad;
-    }
-    if !words::has(s, at + 1, 4) {
-        return TermRead::Bad;
-    }
-    TermRead::Is {
-        term: Term::Constant {
+    let (column, after) = words::byte_within(s, at, 0, 3)?;
+    let (constant, next) = words::number32(s, after)?;
+    Some((
+        Term::Constant {
             op,
             column,
-            constant: words::word32(s, at + 1),
+            constant,
         },
-        next: at + 1 + 4,
-    }
+        next,
+    ))
 }
 
-fn against_column(s: &[u8], triggers: usize, at: usize, op: usize) -> TermRead
+fn against_column(s: &[u8], triggers: usize, at: usize, op: usize) -> Option<(Term, usize)>
     ensures { term_or s.now result ≡ ByteLayouts.against_column triggers op s.now at }
 {
-    let column = words::byte(s, at);
-    if 3 < column {
-        return TermRead::Bad;
-    }
-    let other = words::byte(s, at + 1);
-    if 3 < other {
-        return TermRead::Bad;
-    }
-    TermRead::Is {
-        term: Term::Columns { op, column, other },
-        next: at + 1 + 1,
-    }
+    let (column, after) = words::byte_within(s, at, 0, 3)?;
+    let (other, next) = words::byte_within(s, after, 0, 3)?;
+    Some((Term::Columns { op, column, other }, next))
 }
 
-fn matching(s: &[u8], triggers: usize, at: usize, negated: bool) -> TermRead
+fn matching(s: &[u8], triggers: usize, at: usize, negated: bool) -> Option<(Term, usize)>
     ensures { term_or s.now result ≡ ByteLayouts.matching triggers (match_meant negated) s.now at }
 {
-    let source = words::byte(s, at);
-    if !source_fits(triggers, source) {
-        return TermRead::Bad;
-    }
-    let count = words::byte(s, at + 1);
-    match count {
-        1..=4 => match pairs_end(s, at + 1 + 1, count) {
-            End::At(next) => TermRead::Is {
-                term: Term::Match {
-                    negated,
-                    source,
-                    count,
-                    pairs: at + 1 + 1,
-                },
-                next,
-            },
-            End::Short => TermRead::Bad,
+    let (source, after) = source_at(s, triggers, at)?;
+    let (count, pairs) = words::byte_within(s, after, 1, 4)?;
+    let next = words::many_end(&Pairs, s, pairs, count)?;
+    Some((
+        Term::Match {
+            negated,
+            source,
+            count,
+            pairs,
         },
-        _ => TermRead::Bad,
-    }
+        next,
+    ))
 }
 
 // The term at a place of a rule with these triggers.
-pub fn term_at(s: &[u8], triggers: usize, at: usize) -> TermRead
+pub fn term_at(s: &[u8], triggers: usize, at: usize) -> Option<(Term, usize)>
     ensures { term_or s.now result ≡ ByteLayouts.term triggers s.now at }
 {
-    let op = words::byte(s, at);
+    let (op, next) = words::byte_within(s, at, 0, 255)?;
     match op {
-        0..=5 => against_constant(s, triggers, at + 1, op),
-        6..=11 => against_column(s, triggers, at + 1, op - 6),
-        12 => matching(s, triggers, at + 1, false),
-        13 => matching(s, triggers, at + 1, true),
-        _ => TermRead::Bad,
+        0..=5 => against_constant(s, triggers, next, op),
+        6..=11 => against_column(s, triggers, next, op - 6),
+        12 => matching(s, triggers, next, false),
+        13 => matching(s, triggers, next, true),
+        _ => None,
     }
 }
 
-// Where n terms end.
-fn terms_end(s: &[u8], triggers: usize, at: usize, n: usize) -> End
-    ensures { result ≡ end_of (many n (ByteLayouts.term triggers) s.now at) }
-{
-    let mut left = n;
-    let mut here = at;
-    while 0 < left {
-        match term_at(s, triggers, here) {
-            TermRead::Is { term: _, next } => {
-                here = next;
-            }
-            TermRead::Bad => {
-                return End::Short;
-            }
-        }
-        left -= 1;
+// The terms of a rule with these triggers.
+struct RuleTerms {
+    triggers: usize,
+}
+
+impl Layout for RuleTerms {
+    ghost Value = { Covers.Term };
+
+    ghost layout = { λ r. ByteLayouts.term r.triggers };
+
+    fn end(&self, s: &[u8], at: usize) -> Option<usize> {
+        Some(term_at(s, self.triggers, at)?.1)
     }
-    End::At(here)
 }
 
 // A term count, 0..4, and its terms.
-pub fn terms_at(s: &[u8], triggers: usize, at: usize) -> TermsRead
+pub fn terms_at(s: &[u8], triggers: usize, at: usize) -> Option<(Terms, usize)>
     ensures { terms_or s.now triggers result ≡ ByteLayouts.terms triggers s.now at }
 {
-    let count = words::byte(s, at);
-    if 4 < count {
-        return TermsRead::Bad;
-    }
-    match terms_end(s, triggers, at + 1, count) {
-        End::At(next) => TermsRead::Is {
-            terms: Terms {
-                count,
-                first: at + 1,
-            },
-            next,
-        },
-        End::Short => TermsRead::Bad,
-    }
+    let (count, first) = words::byte_within(s, at, 0, 4)?;
+    let next = words::many_end(&RuleTerms { triggers }, s, first, count)?;
+    Some((Terms { count, first }, next))
 }
 
 // A row source and terms.
-pub fn query_at(s: &[u8], triggers: usize, at: usize) -> QueryRead
+pub fn query_at(s: &[u8], triggers: usize, at: usize) -> Option<(Query, usize)>
     ensures { query_or s.now triggers result ≡ ByteLayouts.query triggers s.now at }
 {
-    let source = words::byte(s, at);
-    if !source_fits(triggers, source) {
-        return QueryRead::Bad;
-    }
-    match terms_at(s, triggers, at + 1) {
-        TermsRead::Is { terms, next } => QueryRead::Is {
-            query: Query { source, terms },
-            next,
-        },
-        TermsRead::Bad => QueryRead::Bad,
-    }
+    let (source, after) = source_at(s, triggers, at)?;
+    let (terms, next) = terms_at(s, triggers, after)?;
+    Some((Query { source, terms }, next))
 }
 
-fn constant(s: &[u8], at: usize) -> ExpressionRead
+fn constant(s: &[u8], at: usize) -> Option<(Expression, usize)>
     ensures { expression_or result ≡ ByteLayouts.constant s.now at }
 {
-    if !words::has(s, at, 4) {
-        return ExpressionRead::Bad;
-    }
-    ExpressionRead::Is {
-        expression: Expression::Constant(words::word32(s, at)),
-        next: at + 4,
-    }
+    let (constant, next) = words::number32(s, at)?;
+    Some((Expression::Constant(constant), next))
 }
 
-fn column(s: &[u8], at: usize) -> ExpressionRead
+fn column(s: &[u8], at: usize) -> Option<(Expression, usize)>
     ensures { expression_or result ≡ ByteLayouts.of_column s.now at }
 {
-    let c = words::byte(s, at);
-    if 3 < c {
-        return ExpressionRead::Bad;
-    }
-    ExpressionRead::Is {
-        expression: Expression::Column(c),
-        next: at + 1,
-    }
+    let (column, next) = words::byte_within(s, at, 0, 3)?;
+    Some((Expression::Column(column), next))
 }
 
-fn sum(s: &[u8], at: usize) -> ExpressionRead
+fn sum(s: &[u8], at: usize) -> Option<(Expression, usize)>
     ensures { expression_or result ≡ ByteLayouts.sum s.now at }
 {
-    let c = words::byte(s, at);
-    if 3 < c {
-        return ExpressionRead::Bad;
-    }
-    if !words::has(s, at + 1, 4) {
-        return ExpressionRead::Bad;
-    }
-    ExpressionRead::Is {
-        expression: Expression::Sum {
-            column: c,
-            constant: words::word32(s, at + 1),
-        },
-        next: at + 1 + 4,
-    }
+    let (column, after) = words::byte_within(s, at, 0, 3)?;
+    let (constant, next) = words::number32(s, after)?;
+    Some((Expression::Sum { column, constant }, next))
 }
 
 // The expression at a place.
-pub fn expression_at(s: &[u8], at: usize) -> ExpressionRead
+pub fn expression_at(s: &[u8], at: usize) -> Option<(Expression, usize)>
     ensures { expression_or result ≡ ByteLayouts.expression s.now at }
 {
-    let kind = words::byte(s, at);
+    let (kind, next) = words::byte_within(s, at, 0, 255)?;
     match kind {
-        0 => constant(s, at + 1),
-        1 => column(s, at + 1),
-        2 => sum(s, at + 1),
-        _ => ExpressionRead::Bad,
+        0 => constant(s, next),
+        1 => column(s, next),
+        2 => sum(s, next),
+        _ => None,
     }
 }
 
-// Where n expressions end.
-pub fn expressions_end(s: &[u8], at: usize, n: usize) -> End
-    ensures { result ≡ end_of (many n ByteLayouts.expression s.now at) }
-{
-    let mut left = n;
-    let mut here = at;
-    while 0 < left {
-        match expression_at(s, here) {
-            ExpressionRead::Is {
-                expression: _,
-                next,
-            } => {
-                here = next;
-            }
-            ExpressionRead::Bad => {
-                return End::Short;
-            }
-        }
-        left -= 1;
+pub struct Expressions;
+
+impl Layout for Expressions {
+    ghost Value = { Covers.Expression };
+
+    ghost layout = { λ _. ByteLayouts.expression };
+
+    fn end(&self, s: &[u8], at: usize) -> Option<usize> {
+        Some(expression_at(s, at)?.1)
     }
-    End::At(here)
 }

@@ -2,12 +2,12 @@
 #![tactic(auto)]
 
 ghost use Rattle.std.specs.Prelude.{◌≡◌};
-ghost use Rattle.meaning.specs.Reading.{many, read_all};
+ghost use Rattle.meaning.specs.Reading.{read_all};
+ghost use Rattle.meaning.specs.Covers.{LogOperation};
 ghost use Rattle.meaning.specs.ByteLayouts as ByteLayouts;
-ghost use Rattle.words.specs.Words.{end_of};
 ghost use Rattle.transaction_log.specs.Log.{operation_or, log_or};
 
-use words::End;
+use words::Layout;
 
 // An operation, its values where they stand.
 #[derive(Clone, Copy)]
@@ -26,134 +26,80 @@ pub enum Operation {
     },
 }
 
-#[derive(Clone, Copy)]
-pub enum OperationRead {
-    Is { operation: Operation, next: usize },
-    Bad,
-}
-
-#[derive(Clone, Copy)]
-pub enum LogRead {
-    Is { count: usize },
-    Bad,
-}
-
 // At most 256 operations, which stand after the operation count.
 pub const OPERATIONS: usize = 256;
 
 pub const FIRST: usize = 7;
 
-fn insertion(s: &[u8], at: usize) -> OperationRead
+fn insertion(s: &[u8], at: usize) -> Option<(Operation, usize)>
     ensures { operation_or s.now result ≡ ByteLayouts.insertion s.now at }
 {
-    let table = words::byte(s, at);
-    if 3 < table {
-        return OperationRead::Bad;
-    }
-    match fields::values_end(s, at + 1, 4) {
-        End::At(next) => OperationRead::Is {
-            operation: Operation::Insert {
-                table,
-                values: at + 1,
-            },
-            next,
-        },
-        End::Short => OperationRead::Bad,
-    }
+    let (table, values) = words::byte_within(s, at, 0, 3)?;
+    let next = fields::values_end(s, values, 4)?;
+    Some((Operation::Insert { table, values }, next))
 }
 
-fn deletion(s: &[u8], at: usize) -> OperationRead
+fn deletion(s: &[u8], at: usize) -> Option<(Operation, usize)>
     ensures { operation_or s.now result ≡ ByteLayouts.deletion s.now at }
 {
-    if !words::has(s, at, 4) {
-        return OperationRead::Bad;
-    }
-    OperationRead::Is {
-        operation: Operation::Delete {
-            handle: words::word32(s, at),
-        },
-        next: at + 4,
-    }
+    let (handle, next) = words::number32(s, at)?;
+    Some((Operation::Delete { handle }, next))
 }
 
-fn change(s: &[u8], at: usize) -> OperationRead
+fn change(s: &[u8], at: usize) -> Option<(Operation, usize)>
     ensures { operation_or s.now result ≡ ByteLayouts.change s.now at }
 {
-    if !words::has(s, at, 4) {
-        return OperationRead::Bad;
-    }
-    let mask = words::byte(s, at + 4);
-    match mask {
-        1..=15 => match fields::values_end(s, at + 4 + 1, usize::count_ones(mask) as usize) {
-            End::At(next) => OperationRead::Is {
-                operation: Operation::Update {
-                    handle: words::word32(s, at),
-                    mask,
-                    values: at + 4 + 1,
-                },
-                next,
-            },
-            End::Short => OperationRead::Bad,
+    let (handle, after) = words::number32(s, at)?;
+    let (mask, values) = words::byte_within(s, after, 1, 15)?;
+    let next = fields::values_end(s, values, usize::count_ones(mask) as usize)?;
+    Some((
+        Operation::Update {
+            handle,
+            mask,
+            values,
         },
-        _ => OperationRead::Bad,
-    }
+        next,
+    ))
 }
 
 // The operation at a place.
-pub fn operation_at(s: &[u8], at: usize) -> OperationRead
+pub fn operation_at(s: &[u8], at: usize) -> Option<(Operation, usize)>
     ensures { operation_or s.now result ≡ ByteLayouts.operation s.now at }
 {
-    let kind = words::byte(s, at);
+    let (kind, next) = words::byte_within(s, at, 0, 255)?;
     match kind {
-        1 => insertion(s, at + 1),
-        2 => deletion(s, at + 1),
-        3 => change(s, at + 1),
-        _ => OperationRead::Bad,
+        1 => insertion(s, next),
+        2 => deletion(s, next),
+        3 => change(s, next),
+        _ => None,
     }
 }
 
-// Where n operations end.
-fn operations_end(s: &[u8], at: usize, n: usize) -> End
-    ensures { result ≡ end_of (many n ByteLayouts.operation s.now at) }
-{
-    let mut left = n;
-    let mut here = at;
-    while 0 < left {
-        match operation_at(s, here) {
-            OperationRead::Is { operation: _, next } => {
-                here = next;
-            }
-            OperationRead::Bad => {
-                return End::Short;
-            }
-        }
-        left -= 1;
+struct Operations;
+
+impl Layout for Operations {
+    ghost Value = { LogOperation };
+
+    ghost layout = { λ _. ByteLayouts.operation };
+
+    fn end(&self, s: &[u8], at: usize) -> Option<usize> {
+        Some(operation_at(s, at)?.1)
     }
-    End::At(here)
 }
 
 // How many operations the log has, where it is well formed.
-pub fn judge(s: &[u8]) -> LogRead
+pub fn judge(s: &[u8]) -> Option<usize>
     ensures { log_or s.now result ≡ read_all ByteLayouts.log s.now }
 {
     if !fields::well_framed(s) {
-        return LogRead::Bad;
+        return None;
     }
-    if !words::has(s, fields::FIELDS, 2) {
-        return LogRead::Bad;
-    }
-    let count = words::word16(s, fields::FIELDS);
+    let (count, first) = words::number16(s, fields::FIELDS)?;
     if OPERATIONS < count {
-        return LogRead::Bad;
+        return None;
     }
-    match operations_end(s, FIRST, count) {
-        End::At(next) => {
-            if next == s.len() {
-                LogRead::Is { count }
-            } else {
-                LogRead::Bad
-            }
-        }
-        End::Short => LogRead::Bad,
+    if words::many_end(&Operations, s, first, count)? != s.len() {
+        return None;
     }
+    Some(count)
 }

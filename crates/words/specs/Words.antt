@@ -1,12 +1,8 @@
 -- Bytes and numbers at places of a slice, and the answers of the functions that read them.
-use Rattle.std.specs.Prelude.{◌≡◌, List, [], ◌∷◌, ℕ, zero, suc, ◌+◌, ◌*◌, ◌/◌, ◌%◌, ◌<◌, ℤ, length, get_or}
-use Rattle.std.proofs.Math.Option.{Option, none, some}
+use Rattle.std.specs.Prelude.{◌≡◌, List, [], ◌∷◌, ℕ, zero, suc, ◌+◌, ◌*◌, ◌/◌, ◌%◌, ◌<◌, ◌≤◌, ℤ, length, get_or, Option, Some, None}
+use Rattle.std.proofs.Math.Option.{Option as Maybe, none, some}
 use Rattle.meaning.specs.Reading.{byte_at, Read, bad, got, Parser}
 use Rattle.meaning.specs.Values.{signed}
-use Rattle.words.specs.declared.End.{End}
-use Rattle.words.specs.declared.End.TheVariants.{At, Short}
-use Rattle.words.specs.declared.Sum.{Sum}
-use Rattle.words.specs.declared.Sum.TheVariants.{Is, Out}
 
 -- each element is a byte; past the end `get_or` gives 0, which is one too
 abbrev pub Bytes : List ℕ → Type 0
@@ -34,10 +30,28 @@ pub record Peeked (s : List ℕ) (at r : ℕ) : Type 0 where
   pub inside : at < length s + r / 256 * 18446744073709551616
   pub small : r < 257
 
+-- an `Option` of the code as one of the specification, by what its value means
+unfoldable pub option_as : {A B : Type 0} → (A → B) → Option A → Maybe B
+option_as f None = none
+option_as f (Some x) = some (f x)
+
+-- what was read, and the place after it, by what the value means
+unfoldable pub read_as : {A B : Type 0} → (A → B) → Option (A × ℕ) → Read B
+read_as f None = bad
+read_as f (Some (x, next)) = got (f x) next
+
+abbrev pub read : {A : Type 0} → Option (A × ℕ) → Read A
+read = read_as (λ x. x)
+
+-- a number that was read is in a range
+pub record Within (low high : ℕ) (read : ℕ × ℕ) : Type 0 where
+  pub low_bound : low ≤ read.0
+  pub high_bound : read.0 ≤ high
+
 -- where what was read ends
-unfoldable pub end_of : {A : Type 0} → Read A → End
-end_of bad = Short
-end_of (got a next) = At next
+unfoldable pub end_of : {A : Type 0} → Read A → Option ℕ
+end_of bad = None
+end_of (got a next) = Some next
 
 -- what was read, and then more from the place after it
 unfoldable pub and_more : {A : Type 0} → Read A → (ℕ → List A) → List A
@@ -50,6 +64,5 @@ readable zero p s at = []
 readable (suc n) p s at = and_more (p s at) (readable n p s)
 
 -- what a sum of two words stands for
-unfoldable pub sum_meant : Sum → Option ℤ
-sum_meant (Is w) = some (signed w)
-sum_meant Out = none
+abbrev pub sum_meant : Option ℕ → Maybe ℤ
+sum_meant = option_as signed

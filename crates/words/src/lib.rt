@@ -3,27 +3,14 @@
 // the specification's numbers: bytes and words of a list, values as integers.
 #![tactic(auto)]
 
-ghost use Rattle.std.specs.Prelude.{not, ◌≡◌, ◌+◌, ◌*◌, ◌/◌, ◌%◌, ◌^◌, ◌≤◌, ◌<◌, eqb, leb, length};
+ghost use Rattle.std.specs.Prelude.{not, ◌≡◌, ◌+◌, ◌*◌, ◌/◌, ◌%◌, ◌^◌, ◌≤◌, ◌<◌, eqb, leb, length, IfSome};
 ghost use Rattle.std.specs.Int.Bits.{bit_and};
 ghost use Rattle.std.proofs.lemmas.List.Edits.{sets};
 ghost use Rattle.meaning.specs.Base.{bit};
+ghost use Rattle.meaning.specs.Reading.{Parser, byte_within, number16, number32, many};
 ghost use Rattle.meaning.specs.ByteLayouts.{bytes2, bytes4, comparison};
 ghost use Rattle.meaning.specs.Values.{signed, agree as values_agree, compare as values_compare, plus as values_plus};
-ghost use Rattle.words.specs.Words.{word16_at, word32_at, low32_at, low_bytes4, Peeked, sum_meant};
-
-// The word of a sum, or that it leaves 32 bits.
-#[derive(Clone, Copy)]
-pub enum Sum {
-    Is(u32),
-    Out,
-}
-
-// Where what was read ends, or that it is malformed.
-#[derive(Clone, Copy)]
-pub enum End {
-    At(usize),
-    Short,
-}
+ghost use Rattle.words.specs.Words.{word16_at, word32_at, low32_at, low_bytes4, Peeked, read, end_of, sum_meant, Within};
 
 // A byte as a number.
 pub fn wide(x: u8) -> usize
@@ -73,6 +60,61 @@ pub fn word32(s: &[u8], at: usize) -> u32
     ensures { result ≡ word32_at s.now at }
 {
     join4(s[at], s[at + 1], s[at + 2], s[at + 3])
+}
+
+// What can be read at a place comes with the place after it; `None` is malformed.
+
+// A byte in a range.
+pub fn byte_within(s: &[u8], at: usize, low: u8, high: u8) -> Option<(usize, usize)>
+    ensures reads { read result ≡ byte_within low high s.now at }
+    ensures within { IfSome result (Within low high) }
+{
+    let x = *s.get(at)?;
+    if x < low || high < x {
+        return None;
+    }
+    Some((wide(x), at + 1))
+}
+
+// A number of two bytes.
+pub fn number16(s: &[u8], at: usize) -> Option<(usize, usize)>
+    ensures { read result ≡ number16 s.now at }
+{
+    if !has(s, at, 2) {
+        return None;
+    }
+    Some((word16(s, at), at + 2))
+}
+
+// A number of four bytes.
+pub fn number32(s: &[u8], at: usize) -> Option<(u32, usize)>
+    ensures { read result ≡ number32 s.now at }
+{
+    if !has(s, at, 4) {
+        return None;
+    }
+    Some((word32(s, at), at + 4))
+}
+
+// What stands one after another in a part: where one of them ends.
+pub trait Layout {
+    ghost Value: { Type 0 };
+
+    ghost layout: { Self → Parser Value };
+
+    fn end(&self, s: &[u8], at: usize) -> Option<usize>
+        ensures { result ≡ end_of (layout self.now s.now at) };
+}
+
+// Where n of them end, each from where the one before it ends.
+pub fn many_end<L: Layout>(layout: &L, s: &[u8], at: usize, n: usize) -> Option<usize>
+    ensures { result ≡ end_of (many n (L.layout layout.now) s.now at) }
+{
+    let mut here = at;
+    for _ in 0..n {
+        here = layout.end(s, here)?;
+    }
+    Some(here)
 }
 
 pub fn put16(s: &mut [u8], at: usize, v: usize)
@@ -167,15 +209,16 @@ pub fn compare(op: usize, a: u32, b: u32) -> bool
     }
 }
 
-pub fn plus(a: u32, b: u32) -> Sum
+// The word of a sum, unless it leaves 32 bits.
+pub fn plus(a: u32, b: u32) -> Option<u32>
     ensures { sum_meant result ≡ values_plus (signed a) (signed b) }
 {
     let t = (lifted(a) as u64) + (lifted(b) as u64);
     if t < 2147483648 {
-        return Sum::Out;
+        return None;
     }
     if t >= 6442450944 {
-        return Sum::Out;
+        return None;
     }
-    Sum::Is((t % 4294967296) as u32)
+    Some((t % 4294967296) as u32)
 }
