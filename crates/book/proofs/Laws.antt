@@ -16,7 +16,7 @@ use Rattle.meaning.specs.Base.{bit, within}
 use Rattle.meaning.specs.Reading.{bad, got, byte_within, many, read_all}
 use Rattle.meaning.specs.ByteLayouts.{table, mask, columns, rule, book}
 use Rattle.words.specs.Words.{Bytes, Peeked, word16_at, end_of, readable}
-use Rattle.words.specs.declared.End.TheVariants.{At, Short}
+use Rattle.std.specs.Prelude.{Some, None}
 use Rattle.words.proofs.Laws.{split, number16-read, number16-short, short-bad, ends-readable}
 use Rattle.fields.specs.Fields.{well_framed}
 use Rattle.fields.proofs.Laws.{frame_refused, fields-refused, length-refused, fields-taken}
@@ -107,14 +107,14 @@ module _ (s : List ℕ) (b : Bytes s) (framed : well_framed s ≡ true) (here : 
         fields-refused _ s b framed
         (rw (number16-read s b 5 here, ← is, le-leb 1 l low, le-leb l 1000 high, looked-above look 0 16 h))
 
-    pub book-malformed : n ≤ 16 → end_of (many n (rule n) s 8) ≡ Short → read_all book s ≡ none
+    pub book-malformed : n ≤ 16 → end_of (many n (rule n) s 8) ≡ None → read_all book s ≡ none
     unfolding book
     book-malformed h e =
         fields-refused _ s b framed
         (rw (number16-read s b 5 here, ← is, le-leb 1 l low, le-leb l 1000 high, looked-within look 0 16 (omega arith) h)
         (rw (short-bad (many n (rule n) s 8) e)))
 
-    pub book-not-filled : n ≤ 16 → (next : ℕ) → end_of (many n (rule n) s 8) ≡ At next → (next ≡ length s → ⊥) → read_all book s ≡ none
+    pub book-not-filled : n ≤ 16 → (next : ℕ) → end_of (many n (rule n) s 8) ≡ Some next → (next ≡ length s → ⊥) → read_all book s ≡ none
     unfolding book
     book-not-filled h next e other =
         length-refused _ s b framed (record { limit = l; rules = readable n (rule n) s 8 }) next
@@ -122,7 +122,7 @@ module _ (s : List ℕ) (b : Bytes s) (framed : well_framed s ≡ true) (here : 
         (rw (ends-readable (rule n) n s 8 next e)))
         other
 
-    pub book-read : n ≤ 16 → (next : ℕ) → end_of (many n (rule n) s 8) ≡ At next → next ≡ length s
+    pub book-read : n ≤ 16 → (next : ℕ) → end_of (many n (rule n) s 8) ≡ Some next → next ≡ length s
         → read_all book s ≡ some (record { limit = l; rules = readable n (rule n) s 8 })
     unfolding book
     book-read h next e end =
@@ -131,6 +131,6 @@ module _ (s : List ℕ) (b : Bytes s) (framed : well_framed s ≡ true) (here : 
         (rw (ends-readable (rule n) n s 8 next e)))
         end
 
-    pub book-well-formed : n ≤ 16 → (next : ℕ) → end_of (many n (rule n) s 8) ≡ At next → next ≡ length s → WellFormed s l n
+    pub book-well-formed : n ≤ 16 → (next : ℕ) → end_of (many n (rule n) s 8) ≡ Some next → next ≡ length s → WellFormed s l n
     book-well-formed h next e end =
         record { few = h; read = rw (← end) (ends-readable (rule n) n s 8 next e); book = book-read h next e end }

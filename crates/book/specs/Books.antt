@@ -1,6 +1,6 @@
 -- What the decoders of actions, rules and books answer.
 use Rattle.std.specs.Prelude.{◌≡◌, Bool, List, [], ℕ, ◌≤◌, eqb, ltb, length, if◌then◌else◌, Option, Some, None}
-use Rattle.std.proofs.Math.Option.{Option as Maybe, none}
+use Rattle.std.proofs.Math.Option.{Option as Maybe, none, some}
 use Rattle.std.specs.Int.Count.{ones}
 use Rattle.meaning.specs.Base.{bit, within}
 use Rattle.meaning.specs.Reading.{Read, bad, got, on_from, many, read_all}
@@ -10,6 +10,7 @@ use Rattle.meaning.specs.EntryPoints.{first_rule}
 use Rattle.words.specs.Words.{option_as, read_as, readable}
 use Rattle.fields.specs.Fields.{values_at}
 use Rattle.terms.specs.Terms.{terms_meant, query_meant}
+use Rattle.terms.specs.declared.Query.{Query}
 use Rattle.book.specs.declared.Action.{Action}
 use Rattle.book.specs.declared.Action.TheVariants as action
 use Rattle.book.specs.declared.Actions.{Actions}

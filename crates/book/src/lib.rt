@@ -144,6 +144,7 @@ pub fn action_at(s: &[u8], triggers: usize, at: usize) -> Option<(Action, usize)
 }
 
 // The actions of a rule with these triggers.
+#[derive(Clone, Copy)]
 struct RuleActions {
     triggers: usize,
 }
@@ -248,6 +249,7 @@ pub fn rule_at(s: &[u8], n: usize, at: usize) -> Option<(Rule, usize)>
 }
 
 // The rules of a book of n.
+#[derive(Clone, Copy)]
 struct BookRules {
     n: usize,
     ghost few: { n ≤ 16 },

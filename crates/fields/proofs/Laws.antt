@@ -14,7 +14,7 @@ use Rattle.meaning.specs.Reading.{Read, bad, got, Parser, on_from, byte_at, byte
 use Rattle.meaning.specs.ByteLayouts.{framed, value}
 use Rattle.meaning.specs.Values.{signed}
 use Rattle.words.specs.Words.{Bytes, word32_at, end_of}
-use Rattle.words.specs.declared.End.TheVariants.{At, Short}
+use Rattle.std.specs.Prelude.{Some, None}
 use Rattle.words.proofs.Laws.{split, byte-within-yes, byte-within-low, byte-within-high, number32-read, number32-short}
 use Rattle.words.proofs.Laws.{value_read, value-short, ends-got, ends-none, ends-bad, ends_more, ends-readable, short-bad}
 use Rattle.fields.specs.Fields.{well_framed, values_at}
@@ -37,7 +37,7 @@ module _ (s : List ℕ) (end : ℕ) {r : Bool} (e : r ≡ leb end (length s)) wh
 
 -- ---- Values in a row
 
-pub values-taken : (s : List ℕ) (n at next : ℕ) → end_of (many n value s at) ≡ At next → many n value s at ≡ got (values_at s n at) next
+pub values-taken : (s : List ℕ) (n at next : ℕ) → end_of (many n value s at) ≡ Some next → many n value s at ≡ got (values_at s n at) next
 unfolding values_at
 values-taken s n at next h = ends-readable value n s at next h
 
@@ -45,17 +45,17 @@ module _ (s : List ℕ) (b : Bytes s) where
   -- where a value stands, the rest of them are read after it
   values-more : (n at : ℕ) → at + 4 ≤ length s → end_of (many (suc n) value s at) ≡ end_of (many n value s (at + 4))
   values-more n at h =
-      let first : end_of (value s at) ≡ At (at + 4) = ap end_of (value_read s b at h) ∙ ends-got (signed (word32_at s at)) (at + 4) in
+      let first : end_of (value s at) ≡ Some (at + 4) = ap end_of (value_read s b at h) ∙ ends-got (signed (word32_at s at)) (at + 4) in
       let less : suc n - 1 ≡ n = omega arith in
       ends_more value (suc n) s at (at + 4) (omega arith) first ∙ ap (λ (k : ℕ). end_of (many k value s (at + 4))) less
 
-  pub values-end-read : (n at : ℕ) → at + n * 4 ≤ length s → end_of (many n value s at) ≡ At (at + n * 4)
-  values-end-read zero at h = ends-none value zero s at (omega arith) ∙ ap At (omega arith)
+  pub values-end-read : (n at : ℕ) → at + n * 4 ≤ length s → end_of (many n value s at) ≡ Some (at + n * 4)
+  values-end-read zero at h = ends-none value zero s at (omega arith) ∙ ap Some (omega arith)
   values-end-read (suc n) at h =
       let after : at + 4 + n * 4 ≡ at + suc n * 4 = omega arith in
-      values-more n at (omega arith) ∙ values-end-read n (at + 4) (omega arith) ∙ ap At after
+      values-more n at (omega arith) ∙ values-end-read n (at + 4) (omega arith) ∙ ap Some after
 
-  pub values-end-short : (n at : ℕ) → 0 < n → length s < at + n * 4 → end_of (many n value s at) ≡ Short
+  pub values-end-short : (n at : ℕ) → 0 < n → length s < at + n * 4 → end_of (many n value s at) ≡ None
   unfolding end_of
   values-end-short zero at l h = absurd (omega arith)
   values-end-short (suc zero) at l h = ends-bad value 1 s at (omega arith) (ap end_of (value-short s b at (omega arith)))

@@ -75,6 +75,7 @@ fn source_at(s: &[u8], triggers: usize, at: usize) -> Option<(usize, usize)>
     Some((source, next))
 }
 
+#[derive(Clone, Copy)]
 struct Pairs;
 
 impl Layout for Pairs {
@@ -144,6 +145,7 @@ pub fn term_at(s: &[u8], triggers: usize, at: usize) -> Option<(Term, usize)>
 }
 
 // The terms of a rule with these triggers.
+#[derive(Clone, Copy)]
 struct RuleTerms {
     triggers: usize,
 }
@@ -211,6 +213,7 @@ pub fn expression_at(s: &[u8], at: usize) -> Option<(Expression, usize)>
     }
 }
 
+#[derive(Clone, Copy)]
 pub struct Expressions;
 
 impl Layout for Expressions {

@@ -10,7 +10,7 @@ use lib.ListN.{length}
 use Rattle.meaning.specs.Reading.{many, read_all}
 use Rattle.meaning.specs.ByteLayouts.{log, operation}
 use Rattle.words.specs.Words.{Bytes, word16_at, end_of, readable}
-use Rattle.words.specs.declared.End.TheVariants.{At, Short}
+use Rattle.std.specs.Prelude.{Some, None}
 use Rattle.words.proofs.Laws.{number16-read, number16-short, short-bad, ends-readable}
 use Rattle.fields.specs.Fields.{well_framed}
 use Rattle.fields.proofs.Laws.{frame_refused, fields-refused, length-refused, fields-taken}
@@ -31,20 +31,20 @@ module _ (s : List ℕ) (b : Bytes s) (framed : well_framed s ≡ true) (count :
   unfolding log
   log-too-many h = fields-refused _ s b framed (rw (number16-read s b 5 count, ← is, lt-leb n 256 h))
 
-  pub log-malformed : n ≤ 256 → end_of (many n operation s 7) ≡ Short → read_all log s ≡ none
+  pub log-malformed : n ≤ 256 → end_of (many n operation s 7) ≡ None → read_all log s ≡ none
   unfolding log
   log-malformed h e =
       let no = short-bad (many n operation s 7) e in
       fields-refused _ s b framed (rw (number16-read s b 5 count, ← is, le-leb n 256 h) no)
 
-  pub log-not-filled : n ≤ 256 → (next : ℕ) → end_of (many n operation s 7) ≡ At next → (next ≡ length s → ⊥) → read_all log s ≡ none
+  pub log-not-filled : n ≤ 256 → (next : ℕ) → end_of (many n operation s 7) ≡ Some next → (next ≡ length s → ⊥) → read_all log s ≡ none
   unfolding log
   log-not-filled h next e other =
       let operations = readable n operation s 7 in
       let read = ends-readable operation n s 7 next e in
       length-refused _ s b framed operations next (rw (number16-read s b 5 count, ← is, le-leb n 256 h) read) other
 
-  pub log-read : n ≤ 256 → (next : ℕ) → end_of (many n operation s 7) ≡ At next → next ≡ length s
+  pub log-read : n ≤ 256 → (next : ℕ) → end_of (many n operation s 7) ≡ Some next → next ≡ length s
       → read_all log s ≡ some (readable n operation s 7)
   unfolding log
   log-read h next e end =

@@ -75,6 +75,7 @@ pub fn operation_at(s: &[u8], at: usize) -> Option<(Operation, usize)>
     }
 }
 
+#[derive(Clone, Copy)]
 struct Operations;
 
 impl Layout for Operations {

@@ -19,8 +19,7 @@ use Rattle.meaning.specs.Values.{signed}
 use Rattle.meaning.proofs.Parsing.{on-from-got, same-value, same_place}
 use Rattle.meaning.proofs.RunsFit.{Gives}
 use Rattle.words.specs.Words.{Bytes, word16_at, word32_at, low32_at, low_bytes4, end_of, and_more, readable}
-use Rattle.words.specs.declared.End.{End}
-use Rattle.words.specs.declared.End.TheVariants.{At, Short}
+use Rattle.std.specs.Prelude.{Option, Some, None}
 
 -- a test is true or false, and which is known
 pub split : {P : Type 0} (t : Bool) → (t ≡ true → P) → (t ≡ false → P) → P
@@ -172,25 +171,25 @@ first_of p (suc n) s at h e =
 -- ---- Where a structure ends
 
 module _ {A : Type 0} where
-  pub ends-got : (x : A) (next : ℕ) → end_of (got x next) ≡ At next
+  pub ends-got : (x : A) (next : ℕ) → end_of (got x next) ≡ Some next
   unfolding end_of
   ends-got x next = refl
 
   -- what ends nowhere is bad
-  pub short-bad : (r : Read A) → end_of r ≡ Short → r ≡ bad
+  pub short-bad : (r : Read A) → end_of r ≡ None → r ≡ bad
   unfolding end_of
   short-bad bad h = refl
   short-bad (got x next) h = cc
 
 module _ {A B : Type 0} where
   -- a second structure after the first: where both end depends on where the first ends alone
-  pub ends_on : (r : Read A) (f : A → ℕ → Read B) (g : ℕ → End) (next : ℕ)
-      → ((x : A) (e : ℕ) → end_of (f x e) ≡ g e) → end_of r ≡ At next → end_of (on_from r f) ≡ g next
+  pub ends_on : (r : Read A) (f : A → ℕ → Read B) (g : ℕ → Option ℕ) (next : ℕ)
+      → ((x : A) (e : ℕ) → end_of (f x e) ≡ g e) → end_of r ≡ Some next → end_of (on_from r f) ≡ g next
   unfolding end_of
   ends_on bad f g next same h = cc
   ends_on (got x e) f g next same h = same x e ∙ ap g (cc)
 
-  pub ends-on-bad : (r : Read A) (f : A → ℕ → Read B) → end_of r ≡ Short → end_of (on_from r f) ≡ Short
+  pub ends-on-bad : (r : Read A) (f : A → ℕ → Read B) → end_of r ≡ None → end_of (on_from r f) ≡ None
   unfolding end_of
   ends-on-bad bad f h = refl
   ends-on-bad (got x e) f h = cc
@@ -202,15 +201,15 @@ module _ {A B : Type 0} where
   ends-made (got x e) f = refl
 
 module _ {A : Type 0} (p : Parser A) where
-  pub ends-none : (n : ℕ) (s : List ℕ) (at : ℕ) → n ≤ 0 → end_of (many n p s at) ≡ At at
+  pub ends-none : (n : ℕ) (s : List ℕ) (at : ℕ) → n ≤ 0 → end_of (many n p s at) ≡ Some at
   unfolding end_of
   ends-none n s at h = rw (many-none p n s at h)
 
-  pub ends-bad : (n : ℕ) (s : List ℕ) (at : ℕ) → 0 < n → end_of (p s at) ≡ Short → end_of (many n p s at) ≡ Short
+  pub ends-bad : (n : ℕ) (s : List ℕ) (at : ℕ) → 0 < n → end_of (p s at) ≡ None → end_of (many n p s at) ≡ None
   unfolding end_of
   ends-bad n s at h e = rw (many-bad p n s at h (short-bad (p s at) e))
 
-  pub ends_more : (n : ℕ) (s : List ℕ) (at next : ℕ) → 0 < n → end_of (p s at) ≡ At next
+  pub ends_more : (n : ℕ) (s : List ℕ) (at next : ℕ) → 0 < n → end_of (p s at) ≡ Some next
       → end_of (many n p s at) ≡ end_of (many (n - 1) p s next)
   unfolding many
   ends_more zero s at next h e = absurd (omega arith)
@@ -235,13 +234,13 @@ module _ {A : Type 0} (p : Parser A) where
   readable-many zero s at xs e h = cc
   readable-many (suc n) s at xs e h = read-readable (p s at) (many n p s) (readable n p s) xs e (readable-many n s) h
 
-  end-got : (r : Read (List A)) (xs : List A) (e : ℕ) → ((ys : List A) (k : ℕ) → r ≡ got ys k → xs ≡ ys) → end_of r ≡ At e → r ≡ got xs e
+  end-got : (r : Read (List A)) (xs : List A) (e : ℕ) → ((ys : List A) (k : ℕ) → r ≡ got ys k → xs ≡ ys) → end_of r ≡ Some e → r ≡ got xs e
   unfolding end_of
   end-got bad xs e f h = absurd (let z : ◌≡◌ {A = ℕ} 0 1 = cc in omega arith)
   end-got (got ys k) xs e f h = let same : k ≡ e = cc in rw (f ys k refl, same)
 
   -- where n end, they are the readable ones
-  pub ends-readable : (n : ℕ) (s : List ℕ) (at e : ℕ) → end_of (many n p s at) ≡ At e → many n p s at ≡ got (readable n p s at) e
+  pub ends-readable : (n : ℕ) (s : List ℕ) (at e : ℕ) → end_of (many n p s at) ≡ Some e → many n p s at ≡ got (readable n p s at) e
   ends-readable n s at e h = end-got (many n p s at) (readable n p s at) e (λ ys k q. readable-many n s at ys k q) h
 
   pub readable-none : (n : ℕ) (s : List ℕ) (at : ℕ) → n ≤ 0 → readable n p s at ≡ []
