@@ -14,7 +14,7 @@ ghost use Rattle.room.specs.Room.{STRETCH, SPARE, Laid, watch_rule, effect_meant
 ghost use Rattle.room.specs.Joins.{as_effect, join_slot, join_slots, Takes, Settleable, AllSettled, settled_at};
 ghost use Rattle.effects.specs.Settling.{Settles, Loom, Passed, Weavable, Wove, Aside, WaitsSettled, joined_at, table_in, woven_from};
 
-use room::Watch;
+use room::{EffectTable, Watch};
 use slots::Slot;
 
 // The kinds of an effect.
@@ -43,13 +43,11 @@ const INACTIVE: u8 = 4;
 fn join_kind(a: usize, b: usize) -> u8
     ensures { result ≡ join_kind a b }
 {
-    if a < 4 {
-        if b < 4 {
-            let line = JOIN[a];
-            return line[b];
-        }
+    if a < 4 && b < 4 {
+        JOIN[a][b]
+    } else {
+        UNREACHABLE
     }
-    UNREACHABLE
 }
 
 // The columns of two updates.
@@ -63,16 +61,7 @@ fn united(a: u8, b: u8) -> u8
 pub fn as_effect(kind: u8, mask: u8, e: Slot) -> Slot
     ensures { result ≡ as_effect kind mask e }
 {
-    Slot {
-        handle: e.handle,
-        kind,
-        mask,
-        table: e.table,
-        v0: e.v0,
-        v1: e.v1,
-        v2: e.v2,
-        v3: e.v3,
-    }
+    Slot { kind, mask, ..e }
 }
 
 // What was before and what comes after it as one effect; of kind 0 where nothing is left.
@@ -94,43 +83,41 @@ fn join_slot(a: Slot, b: Slot) -> Slot
 
 // Whether an operation is an update that leaves a table of what waits as it was: the effect at a place is of its handle, and the row is
 // inserted, or updated in its columns.
-fn stays(room: &[u8], base: usize, i: usize, op: Slot) -> bool
-    requires stands { Stands base 128 room.now }
-    requires sorted { Sorted (table_at room.now base) }
+fn stays(room: &[u8], wait: EffectTable, i: usize, op: Slot) -> bool
+    requires stands { Stands wait.base 128 room.now }
+    requires sorted { Sorted (table_at room.now wait.base) }
     ensures { result ≡ true
-        → Holds base 128 room.now room.now (join_slots op (table_at room.now base)) }
+        → Holds wait.base 128 room.now room.now (join_slots op (table_at room.now wait.base)) }
 {
-    if op.kind == UPDATED {
-        if slots::is_at(room, base, room::ENTRIES, i, op.handle) {
-            let kind = slots::kind_at(room, base, room::ENTRIES, i);
-            if kind == UPDATED as usize {
-                let mask = slots::mask_at(room, base, room::ENTRIES, i);
-                return mask | words::wide(op.mask) == mask;
-            }
-            return kind == INSERTED as usize;
-        }
+    if op.kind != UPDATED || !wait.is_at(room, i, op.handle) {
+        return false;
     }
-    false
+    let kind = wait.kind_at(room, i);
+    if kind == UPDATED as usize {
+        let mask = wait.mask_at(room, i);
+        return mask | words::wide(op.mask) == mask;
+    }
+    kind == INSERTED as usize
 }
 
 // The effect at a place of a table joins a later one on the same handle.
-fn join_at(room: &mut [u8], base: usize, i: usize, op: Slot)
-    requires stands { Stands base 128 room.old }
-    requires sorted { Sorted (table_at room.old base) }
-    requires i_value { i ≡ place_in op.handle (table_at room.old base) }
-    requires base_value { hit op.handle i (table_at room.old base) ≡ true }
-    ensures { Holds base 128 room.old room.new (join_slots op (table_at room.old base)) }
+fn join_at(room: &mut [u8], wait: EffectTable, i: usize, op: Slot)
+    requires stands { Stands wait.base 128 room.old }
+    requires sorted { Sorted (table_at room.old wait.base) }
+    requires i_value { i ≡ place_in op.handle (table_at room.old wait.base) }
+    requires base_value { hit op.handle i (table_at room.old wait.base) ≡ true }
+    ensures { Holds wait.base 128 room.old room.new (join_slots op (table_at room.old wait.base)) }
 {
-    if stays(room, base, i, op) {
+    if stays(room, wait, i, op) {
         return;
     }
-    let e = slots::slot_at(room, base, room::ENTRIES, i);
+    let e = wait.slot_at(room, i);
     let x = join_slot(e, op);
     if x.kind == NOTHING {
-        slots::remove_at(room, base, room::ENTRIES, i);
+        wait.remove_at(room, i);
         return;
     }
-    slots::put_at(room, base, room::ENTRIES, i, x);
+    wait.put_at(room, i, x);
 }
 
 // An operation joins what was done since the last joining; a near place is the first to try.
@@ -142,136 +129,119 @@ pub fn join(room: &mut [u8], near: usize, op: Slot)
     if stays(room, room::STRETCH, near, op) {
         return;
     }
-    let i = slots::place_near(room, room::STRETCH, room::ENTRIES, near, op.handle);
-    if slots::is_at(room, room::STRETCH, room::ENTRIES, i, op.handle) {
+    let i = room::STRETCH.place_near(room, near, op.handle);
+    if room::STRETCH.is_at(room, i, op.handle) {
         join_at(room, room::STRETCH, i, op);
         return;
     }
-    slots::insert_at(room, room::STRETCH, room::ENTRIES, i, op);
+    room::STRETCH.insert_at(room, i, op);
 }
 
 // The place of a handle in a table of what waits, where all slots before `from` have lower ones.
-fn place_from(room: &[u8], base: usize, from: usize, handle: u32) -> usize
-    requires stands { Stands base 128 room.now }
-    requires from_bound { from ≤ place_in handle (table_at room.now base) }
-    ensures { result ≡ place_in handle (table_at room.now base) }
+fn place_from(room: &[u8], wait: EffectTable, from: usize, handle: u32) -> usize
+    requires stands { Stands wait.base 128 room.now }
+    requires from_bound { from ≤ place_in handle (table_at room.now wait.base) }
+    ensures { result ≡ place_in handle (table_at room.now wait.base) }
 {
-    let n = slots::size(room, base);
-    let mut i = from;
-    while i < n {
-        if handle <= slots::handle_at(room, base, room::ENTRIES, i) {
+    let n = wait.size(room);
+    for i in from..n {
+        if handle <= wait.handle_at(room, i) {
             return i;
         }
-        i += 1;
     }
-    i
+    n
 }
 
 // The slots of a table of what waits from one place up to another, at the end of the spare table.
-fn bring(room: &mut [u8], base: usize, from: usize, to: usize)
-    requires loom { Loom room.old base }
+fn bring(room: &mut [u8], wait: EffectTable, from: usize, to: usize)
+    requires loom { Loom room.old wait.base }
     requires from_le_to { from ≤ to }
-    requires to_bound { to ≤ low32_at room.old base }
+    requires to_bound { to ≤ low32_at room.old wait.base }
     requires from_bound { low32_at room.old SPARE + (to - from) ≤ 128 }
     ensures { Holds SPARE 128 room.old room.new
-        (table_at room.old SPARE ++ slice from to (table_at room.old base)) }
+        (table_at room.old SPARE ++ slice from to (table_at room.old wait.base)) }
 {
-    let mut i = from;
-    while i < to {
-        slots::push_from(room, room::SPARE, room::ENTRIES, base, room::ENTRIES, i);
-        i += 1;
+    for i in from..to {
+        room::SPARE.push_from(room, wait, i);
     }
 }
 
 // Slot i of what waits and slot j of the stretch as one, if anything is left of them.
-fn bring_joined(room: &mut [u8], base: usize, i: usize, j: usize)
-    requires loom { Loom room.old base }
-    requires i_bound { i < low32_at room.old base }
+fn bring_joined(room: &mut [u8], wait: EffectTable, i: usize, j: usize)
+    requires loom { Loom room.old wait.base }
+    requires i_bound { i < low32_at room.old wait.base }
     requires j_bound { j < low32_at room.old STRETCH }
-    requires j_len_bound { length (table_at room.old SPARE ++ joined_at room.old base i j) ≤ 128 }
+    requires j_len_bound { length (table_at room.old SPARE ++ joined_at room.old wait.base i j) ≤ 128 }
     ensures { Holds SPARE 128 room.old room.new
-        (table_at room.old SPARE ++ joined_at room.old base i j) }
+        (table_at room.old SPARE ++ joined_at room.old wait.base i j) }
 {
     // the kinds first, so that slots of which nothing is left are not read
-    let before = slots::kind_at(room, base, room::ENTRIES, i);
-    let after = slots::kind_at(room, room::STRETCH, room::ENTRIES, j);
+    let before = wait.kind_at(room, i);
+    let after = room::STRETCH.kind_at(room, j);
     if join_kind(before, after) == NOTHING {
         return;
     }
-    let e = slots::slot_at(room, base, room::ENTRIES, i);
-    let op = slots::slot_at(room, room::STRETCH, room::ENTRIES, j);
+    let e = wait.slot_at(room, i);
+    let op = room::STRETCH.slot_at(room, j);
     let x = join_slot(e, op);
     // of a slot that said nothing before, nothing may be left either
     if x.kind == NOTHING {
         return;
     }
-    slots::push(room, room::SPARE, room::ENTRIES, x);
+    room::SPARE.push(room, x);
 }
 
 // Slot j of the stretch, after the slots of what waits with lower handles. The answer is where what waits goes on.
-fn weave_one(room: &mut [u8], base: usize, from: usize, j: usize) -> usize
-    requires { Weavable room.old base from j }
-    ensures { Wove room.old room.new base (table_in room.old j) from j result }
+fn weave_one(room: &mut [u8], wait: EffectTable, from: usize, j: usize) -> usize
+    requires { Weavable room.old wait.base from j }
+    ensures { Wove room.old room.new wait.base (table_in room.old j) from j result }
 {
-    let handle = slots::handle_at(room, room::STRETCH, room::ENTRIES, j);
-    let i = place_from(room, base, from, handle);
-    bring(room, base, from, i);
-    if slots::is_at(room, base, room::ENTRIES, i, handle) {
-        bring_joined(room, base, i, j);
+    let handle = room::STRETCH.handle_at(room, j);
+    let i = place_from(room, wait, from, handle);
+    bring(room, wait, from, i);
+    if wait.is_at(room, i, handle) {
+        bring_joined(room, wait, i, j);
         return i + 1;
     }
-    slots::push_from(
-        room,
-        room::SPARE,
-        room::ENTRIES,
-        room::STRETCH,
-        room::ENTRIES,
-        j,
-    );
+    room::SPARE.push_from(room, room::STRETCH, j);
     i
 }
 
 // From a place of what waits on, and from one of the stretch on, both as one table in the place of the first.
-fn weave(room: &mut [u8], base: usize, table: u8, first: usize, after: usize)
-    requires settles { Settles room.old base }
-    requires passed { Passed (table_at room.old base) (table_at room.old STRETCH) first after }
-    requires after_len_bound { length (woven_from room.old base table first after) ≤ 128 }
-    ensures { Aside base room.old room.new (woven_from room.old base table first after) }
+fn weave(room: &mut [u8], wait: EffectTable, table: u8, first: usize, after: usize)
+    requires settles { Settles room.old wait.base }
+    requires passed { Passed (table_at room.old wait.base) (table_at room.old STRETCH) first after }
+    requires after_len_bound { length (woven_from room.old wait.base table first after) ≤ 128 }
+    ensures { Aside wait.base room.old room.new (woven_from room.old wait.base table first after) }
 {
-    slots::empty(room, room::SPARE, room::ENTRIES);
-    let n = slots::size(room, base);
-    let m = slots::size(room, room::STRETCH);
+    room::SPARE.empty(room);
+    let n = wait.size(room);
     let mut i = first;
-    let mut j = after;
-    while j < m {
-        if slots::table_at(room, room::STRETCH, room::ENTRIES, j) == words::wide(table) {
-            i = weave_one(room, base, i, j);
+    for j in after..room::STRETCH.size(room) {
+        if room::STRETCH.table_at(room, j) == words::wide(table) {
+            i = weave_one(room, wait, i, j);
         }
-        j += 1;
     }
-    bring(room, base, i, n);
-    slots::put_tail(room, base, room::ENTRIES, first, room::SPARE, room::ENTRIES);
+    bring(room, wait, i, n);
+    wait.put_tail(room, first, room::SPARE);
 }
 
 // What is on a table joins what waits for a rule on it. Nothing is written before the first slot that changes.
-fn settle_table(room: &mut [u8], base: usize, table: u8)
-    requires settles { Settles room.old base }
-    requires table_len_bound { length (settled_at room.old base table) ≤ 128 }
-    ensures { Aside base room.old room.new (settled_at room.old base table) }
+fn settle_table(room: &mut [u8], wait: EffectTable, table: u8)
+    requires settles { Settles room.old wait.base }
+    requires table_len_bound { length (settled_at room.old wait.base table) ≤ 128 }
+    ensures { Aside wait.base room.old room.new (settled_at room.old wait.base table) }
 {
-    let m = slots::size(room, room::STRETCH);
-    let mut i: usize = 0;
-    let mut j: usize = 0;
-    while j < m {
-        let op = slots::slot_at(room, room::STRETCH, room::ENTRIES, j);
+    let mut i = 0;
+    for j in 0..room::STRETCH.size(room) {
+        let op = room::STRETCH.slot_at(room, j);
         if op.table == table {
-            i = place_from(room, base, i, op.handle);
-            if !stays(room, base, i, op) {
-                weave(room, base, table, i, j);
+            i = place_from(room, wait, i, op.handle);
+            if !stays(room, wait, i, op) {
+                weave(room, wait, table, i, j);
                 return;
             }
         }
-        j += 1;
     }
 }
 
@@ -279,15 +249,13 @@ fn settle_tables(room: &mut [u8], tables: [u8; 16])
     requires { Settleable room.old tables }
     ensures { WaitsSettled room.old room.new tables }
 {
-    let mut k: usize = 0;
-    while k < room::RULES {
+    for k in 0..room::RULES {
         if INACTIVE < tables[k] {
             return;
         }
         if tables[k] < INACTIVE {
-            settle_table(room, room::WAITS + room::WAIT * k, tables[k]);
+            settle_table(room, room::wait(k), tables[k]);
         }
-        k += 1;
     }
 }
 
@@ -296,13 +264,13 @@ pub fn settle(room: &mut [u8], tables: [u8; 16])
     requires { Settleable room.old tables }
     ensures { AllSettled room.old room.new tables }
 {
-    if slots::size(room, room::STRETCH) == 0 {
+    if room::STRETCH.size(room) == 0 {
         return;
     }
     settle_tables(room, tables);
-    slots::empty(room, room::STRETCH, room::ENTRIES);
-    slots::empty(room, room::CHOSEN, room::ROWS);
-    slots::empty(room, room::WORKED, room::ROWS);
+    room::STRETCH.empty(room);
+    room::CHOSEN.empty(room);
+    room::WORKED.empty(room);
 }
 
 // Whether an effect wakes a rule: on its own table, an inserted handle (bit 0), a deleted one (bit 1), or
@@ -313,15 +281,11 @@ fn wakes(rule: Watch, e: Slot) -> bool
     if words::wide(e.table) != rule.table {
         return false;
     }
-    let kind = e.kind;
-    match kind {
-        1 => words::has_bit(rule.triggers, 0),
-        2 => words::has_bit(rule.triggers, 1),
-        3 => {
-            if words::has_bit(rule.triggers, 2) {
-                return words::meet(words::wide(e.mask), rule.columns);
-            }
-            false
+    match e.kind {
+        INSERTED => words::has_bit(rule.triggers, 0),
+        DELETED => words::has_bit(rule.triggers, 1),
+        UPDATED => {
+            words::has_bit(rule.triggers, 2) && words::meet(words::wide(e.mask), rule.columns)
         }
         _ => false,
     }
@@ -333,15 +297,6 @@ pub fn triggered(room: &[u8], k: usize, rule: Watch) -> bool
     requires k_bound { k < 16 }
     ensures { result ≡ any (λ p. TransitionTables.wakes (watch_rule rule) p.1) (waits_in room.now k) }
 {
-    let base = room::WAITS + room::WAIT * k;
-    let n = slots::size(room, base);
-    let mut left = n;
-    while 0 < left {
-        let e = slots::slot_at(room, base, room::ENTRIES, n - left);
-        if wakes(rule, e) {
-            return true;
-        }
-        left -= 1;
-    }
-    false
+    let wait = room::wait(k);
+    (0..wait.size(room)).any(|i| wakes(rule, wait.slot_at(room, i)))
 }

@@ -1,22 +1,19 @@
 -- What a row operation leaves in the working room.
-use Rattle.std.specs.Prelude.{◌≡◌, List, [], ◌∷◌, ◌++◌, ℕ, suc, ◌+◌, ltb, get_or, set, if◌then◌else◌}
+use Rattle.std.specs.Prelude.{◌≡◌, List, [], ◌∷◌, ◌++◌, ℕ, suc, ◌+◌, ltb, get_or, set, if◌then◌else◌, Option, Some, None, Result, Ok, Err}
 use Rattle.meaning.specs.Covers.{most_rows, last_handle}
 use Rattle.words.specs.Words.{low32_at}
 use Rattle.slots.specs.declared.Slot.{Slot}
-use Rattle.slots.specs.declared.Found.{Found}
-use Rattle.slots.specs.declared.Found.TheVariants.{At, Nothing}
 use Rattle.slots.specs.Slots.{table_at, blank, remove_at}
 use Rattle.room.specs.Room.{NEXT, LIVE}
 use Rattle.room.specs.Joins.{as_effect, Joinable}
 use Rattle.room.specs.Turned.{Turned}
-use Rattle.rows.specs.declared.Looked.{Looked}
-use Rattle.rows.specs.declared.Looked.TheVariants.{Made, NoSuchRow}
-use Rattle.rows.specs.declared.Space.{Space}
-use Rattle.rows.specs.declared.Space.TheVariants.{Enough, Full, UsedUp}
+use Rattle.rows.specs.declared.Reason.{Reason}
+use Rattle.rows.specs.declared.Reason.TheVariants.{NoSuchRow, Full, HandlesUsedUp}
 
 -- n rows more: reason 2 is tried before reason 3
-unfoldable pub space_for : ℕ → ℕ → ℕ → Space
-space_for live next n = if ltb most_rows (live + n) then Full else if ltb last_handle (next + n) then UsedUp else Enough
+unfoldable pub space_for : ℕ → ℕ → ℕ → Result (Unit {0}) Reason
+space_for live next n =
+    if ltb most_rows (live + n) then Err Full else if ltb last_handle (next + n) then Err HandlesUsedUp else Ok tt
 
 -- the row with a handle, a table and the values of another
 unfoldable pub row_of : ℕ → ℕ → Slot → Slot
@@ -35,20 +32,20 @@ unfoldable pub operation_at : List ℕ → ℕ → ℕ → ℕ → Slot
 operation_at xs kind mask i = as_effect kind mask (get_or (table_at xs LIVE) i blank)
 
 -- where the row is found, the operation can join
-abbrev pub CanJoin : List ℕ → ℕ → ℕ → Found → Type 0
-CanJoin xs kind mask Nothing = Unit {0}
-CanJoin xs kind mask (At i) = Joinable xs (operation_at xs kind mask i)
+abbrev pub CanJoin : List ℕ → ℕ → ℕ → Option ℕ → Type 0
+CanJoin xs kind mask None = Unit {0}
+CanJoin xs kind mask (Some i) = Joinable xs (operation_at xs kind mask i)
 
 -- a delete: of the row that was found, or none was and nothing changed
-abbrev pub Deleted : List ℕ → List ℕ → Found → Looked → Type 0
-Deleted xs ys (At i) Made = Turned xs ys (remove_at i (table_at xs LIVE)) (low32_at xs NEXT) (operation_at xs 2 0 i)
-Deleted xs ys (At i) NoSuchRow = ⊥
-Deleted xs ys Nothing Made = ⊥
-Deleted xs ys Nothing NoSuchRow = ys ≡ xs
+abbrev pub Deleted : List ℕ → List ℕ → Option ℕ → Result (Unit {0}) Reason → Type 0
+Deleted xs ys (Some i) (Ok t) = Turned xs ys (remove_at i (table_at xs LIVE)) (low32_at xs NEXT) (operation_at xs 2 0 i)
+Deleted xs ys (Some i) (Err r) = ⊥
+Deleted xs ys None (Ok t) = ⊥
+Deleted xs ys None (Err r) = (r ≡ NoSuchRow) × (ys ≡ xs)
 
 -- an update: another row in the place of the one that was found, or none was and nothing changed
-abbrev pub Updated : List ℕ → List ℕ → ℕ → Slot → Found → Looked → Type 0
-Updated xs ys mask new (At i) Made = Turned xs ys (set (table_at xs LIVE) i new) (low32_at xs NEXT) (operation_at xs 3 mask i)
-Updated xs ys mask new (At i) NoSuchRow = ⊥
-Updated xs ys mask new Nothing Made = ⊥
-Updated xs ys mask new Nothing NoSuchRow = ys ≡ xs
+abbrev pub Updated : List ℕ → List ℕ → ℕ → Slot → Option ℕ → Result (Unit {0}) Reason → Type 0
+Updated xs ys mask new (Some i) (Ok t) = Turned xs ys (set (table_at xs LIVE) i new) (low32_at xs NEXT) (operation_at xs 3 mask i)
+Updated xs ys mask new (Some i) (Err r) = ⊥
+Updated xs ys mask new None (Ok t) = ⊥
+Updated xs ys mask new None (Err r) = (r ≡ NoSuchRow) × (ys ≡ xs)

@@ -9,21 +9,15 @@ ghost use Rattle.room.specs.Room.{NEXT, LIVE, Laid};
 ghost use Rattle.room.specs.Joins.{as_effect, Joinable};
 ghost use Rattle.rows.specs.Rows.{space_for, inserted_slot, row_of, Inserted, CanJoin, Deleted, Updated};
 
-use slots::{Found, Slot};
+use slots::Slot;
 
-// A row operation that names a handle was made, or there is no such row.
+// Why an operation fails, in the order of document 01's numbers.
 #[derive(Clone, Copy)]
-pub enum Looked {
-    Made,
+pub enum Reason {
     NoSuchRow,
-}
-
-// Whether rows more have room, and handles.
-#[derive(Clone, Copy)]
-pub enum Space {
-    Enough,
     Full,
-    UsedUp,
+    HandlesUsedUp,
+    SumOutOfRange,
 }
 
 // The last handle that an image may have as its next.
@@ -37,19 +31,19 @@ pub fn next(room: &[u8]) -> u32
 }
 
 // Whether n rows more have room, and handles.
-pub fn space_for(room: &[u8], n: usize) -> Space
+pub fn space_for(room: &[u8], n: usize) -> Result<(), Reason>
     requires laid { Laid room.now }
     requires n_bound { n ≤ 64 }
     ensures { result ≡ space_for (length (table_at room.now LIVE)) (low32_at room.now NEXT) n }
 {
-    if room::ROWS < slots::size(room, room::LIVE) + n {
-        return Space::Full;
+    if room::ROWS < room::LIVE.size(room) + n {
+        return Err(Reason::Full);
     }
     let left = LAST - next(room);
     if (left as usize) < n {
-        return Space::UsedUp;
+        return Err(Reason::HandlesUsedUp);
     }
-    Space::Enough
+    Ok(())
 }
 
 fn row_of(handle: u32, table: u8, e: Slot) -> Slot
@@ -60,10 +54,7 @@ fn row_of(handle: u32, table: u8, e: Slot) -> Slot
         kind: 0,
         mask: 0,
         table,
-        v0: e.v0,
-        v1: e.v1,
-        v2: e.v2,
-        v3: e.v3,
+        ..e
     }
 }
 
@@ -76,41 +67,39 @@ pub fn insert_row(room: &mut [u8], table: u8, e: Slot)
 {
     let handle = next(room);
     let new = row_of(handle, table, e);
-    slots::push(room, room::LIVE, room::ROWS, new);
+    room::LIVE.push(room, new);
     words::put_low32(room, room::NEXT, handle + 1);
     effects::join(room, 0, effects::as_effect(effects::INSERTED, 0, new));
 }
 
 // The row with a handle goes.
-pub fn delete_row(room: &mut [u8], handle: u32) -> Looked
+pub fn delete_row(room: &mut [u8], handle: u32) -> Result<(), Reason>
     requires laid { Laid room.old }
     requires sorted { Sorted (table_at room.old LIVE) }
     requires can_join { CanJoin room.old 2 0 (find_in handle (table_at room.old LIVE)) }
     ensures { Deleted room.old room.new (find_in handle (table_at room.old LIVE)) result }
 {
-    let found = slots::find(room, room::LIVE, room::ROWS, handle);
-    let Found::At(i) = found else {
-        return Looked::NoSuchRow;
+    let Some(i) = room::LIVE.find(room, handle) else {
+        return Err(Reason::NoSuchRow);
     };
-    let old = slots::slot_at(room, room::LIVE, room::ROWS, i);
-    slots::remove_at(room, room::LIVE, room::ROWS, i);
+    let old = room::LIVE.slot_at(room, i);
+    room::LIVE.remove_at(room, i);
     effects::join(room, 0, effects::as_effect(effects::DELETED, 0, old));
-    Looked::Made
+    Ok(())
 }
 
 // A row in the place of the one with its handle; a near place is the first to try.
-pub fn update_row(room: &mut [u8], near: usize, mask: u8, new: Slot) -> Looked
+pub fn update_row(room: &mut [u8], near: usize, mask: u8, new: Slot) -> Result<(), Reason>
     requires laid { Laid room.old }
     requires sorted { Sorted (table_at room.old LIVE) }
     requires can_join { CanJoin room.old 3 mask (find_in new.handle (table_at room.old LIVE)) }
     ensures { Updated room.old room.new mask new (find_in new.handle (table_at room.old LIVE)) result }
 {
-    let found = slots::find_near(room, room::LIVE, room::ROWS, near, new.handle);
-    let Found::At(i) = found else {
-        return Looked::NoSuchRow;
+    let Some(i) = room::LIVE.find_near(room, near, new.handle) else {
+        return Err(Reason::NoSuchRow);
     };
-    let old = slots::slot_at(room, room::LIVE, room::ROWS, i);
-    slots::put_at(room, room::LIVE, room::ROWS, i, new);
+    let old = room::LIVE.slot_at(room, i);
+    room::LIVE.put_at(room, i, new);
     effects::join(room, near, effects::as_effect(effects::UPDATED, mask, old));
-    Looked::Made
+    Ok(())
 }

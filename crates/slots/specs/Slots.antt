@@ -1,9 +1,7 @@
 -- Tables of slots in a room of bytes: what they hold, and what a change of one leaves as it was.
-use Rattle.std.specs.Prelude.{◌≡◌, Bool, false, List, [], ◌∷◌, ◌++◌, ℕ, zero, suc, ◌+◌, ◌*◌, ◌/◌, ◌%◌, ◌≤◌, ◌<◌, length, get_or, take, drop, eqb, ltb, if◌then◌else◌}
+use Rattle.std.specs.Prelude.{◌≡◌, Bool, false, List, [], ◌∷◌, ◌++◌, ℕ, zero, suc, ◌+◌, ◌*◌, ◌/◌, ◌%◌, ◌≤◌, ◌<◌, length, get_or, take, drop, eqb, ltb, if◌then◌else◌, Option, Some, None}
 use Rattle.words.specs.Words.{low32_at}
 use Rattle.slots.specs.declared.Slot.{Slot}
-use Rattle.slots.specs.declared.Found.{Found}
-use Rattle.slots.specs.declared.Found.TheVariants.{At, Nothing}
 
 -- the slot in the 24 bytes from a place: handle; kind, mask and table in one word; four values
 unfoldable pub slot_at : List ℕ → ℕ → Slot
@@ -142,6 +140,6 @@ unfoldable pub hit : ℕ → ℕ → List Slot → Bool
 hit h i l = if ltb i (length l) then eqb (get_or l i blank).handle h else false
 
 -- where the slot of the handle h is
-unfoldable pub find_in : ℕ → List Slot → Found
+unfoldable pub find_in : ℕ → List Slot → Option ℕ
 find_in h l =
-    if ltb (place_in h l) (length l) then (if eqb (get_or l (place_in h l) blank).handle h then At (place_in h l) else Nothing) else Nothing
+    if ltb (place_in h l) (length l) then (if eqb (get_or l (place_in h l) blank).handle h then Some (place_in h l) else None) else None

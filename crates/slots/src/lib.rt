@@ -21,13 +21,6 @@ pub struct Slot {
     pub v3: u32,
 }
 
-// The place of a slot in its table, or that there is none.
-#[derive(Clone, Copy)]
-pub enum Found {
-    At(usize),
-    Nothing,
-}
-
 // The bytes of a slot, and of a table's size before its slots.
 pub const SLOT: usize = 24;
 
@@ -68,226 +61,10 @@ fn store(room: &mut [u8], at: usize, e: Slot)
     words::put_low32(room, at + 20, e.v3);
 }
 
-// How many slots the table at a base has.
-pub fn size(room: &[u8], base: usize) -> usize
-    requires { base + 4 ≤ length room.now }
-    ensures { result ≡ low32_at room.now base }
-{
-    words::low32(room, base) as usize
-}
-
-// The slot i of the table at a base.
-pub fn slot_at(room: &[u8], base: usize, most: usize, i: usize) -> Slot
-    requires stands { Stands base most room.now }
-    requires i_bound { i < low32_at room.now base }
-    ensures { result ≡ get_or (table_at room.now base) i blank }
-{
-    load(room, base + HEAD + SLOT * i)
-}
-
-// The handle of the slot i of the table at a base, without the rest of it.
-pub fn handle_at(room: &[u8], base: usize, most: usize, i: usize) -> u32
-    requires stands { Stands base most room.now }
-    requires i_bound { i < low32_at room.now base }
-    ensures { result ≡ (get_or (table_at room.now base) i blank).handle }
-{
-    words::low32(room, base + HEAD + SLOT * i)
-}
-
-// The same for its kind.
-pub fn kind_at(room: &[u8], base: usize, most: usize, i: usize) -> usize
-    requires stands { Stands base most room.now }
-    requires i_bound { i < low32_at room.now base }
-    ensures { result ≡ (get_or (table_at room.now base) i blank).kind }
-{
-    (words::low32(room, base + HEAD + SLOT * i + 4) / 16777216 % 256) as usize
-}
-
-// The same for its mask.
-pub fn mask_at(room: &[u8], base: usize, most: usize, i: usize) -> usize
-    requires stands { Stands base most room.now }
-    requires i_bound { i < low32_at room.now base }
-    ensures { result ≡ (get_or (table_at room.now base) i blank).mask }
-{
-    (words::low32(room, base + HEAD + SLOT * i + 4) / 65536 % 256) as usize
-}
-
-// The same for its value in a column; past the last column it is 0.
-pub fn value_at(room: &[u8], base: usize, most: usize, i: usize, column: usize) -> u32
-    requires stands { Stands base most room.now }
-    requires i_bound { i < low32_at room.now base }
-    ensures { result ≡ slot_value (get_or (table_at room.now base) i blank) column }
-{
-    if column < 4 {
-        return words::low32(room, base + HEAD + SLOT * i + 8 + 4 * column);
-    }
-    0
-}
-
-// The same for its field `table`.
-pub fn table_at(room: &[u8], base: usize, most: usize, i: usize) -> usize
-    requires stands { Stands base most room.now }
-    requires i_bound { i < low32_at room.now base }
-    ensures { result ≡ (get_or (table_at room.now base) i blank).table }
-{
-    (words::low32(room, base + HEAD + SLOT * i + 4) / 256 % 256) as usize
-}
-
-// How many slots at the front of a table by rising handle have a handle below another: by halving.
-pub fn place(room: &[u8], base: usize, most: usize, handle: u32) -> usize
-    requires stands { Stands base most room.now }
-    requires sorted { Sorted (table_at room.now base) }
-    ensures { result ≡ place_in handle (table_at room.now base) }
-{
-    let mut lo: usize = 0;
-    let mut hi = size(room, base);
-    while lo < hi {
-        let mid = lo + (hi - lo) / 2;
-        if words::low32(room, base + HEAD + SLOT * mid) < handle {
-            lo = mid + 1;
-        } else {
-            hi = mid;
-        }
-    }
-    lo
-}
-
-// Whether the slot at a place of the table has a handle.
-pub fn is_at(room: &[u8], base: usize, most: usize, i: usize, handle: u32) -> bool
-    requires { Stands base most room.now }
-    ensures { result ≡ hit handle i (table_at room.now base) }
-{
-    if i < size(room, base) {
-        return words::low32(room, base + HEAD + SLOT * i) == handle;
-    }
-    false
-}
-
-// Where the slot with a handle is in a table by rising handle.
-pub fn find(room: &[u8], base: usize, most: usize, handle: u32) -> Found
-    requires stands { Stands base most room.now }
-    requires sorted { Sorted (table_at room.now base) }
-    ensures { result ≡ find_in handle (table_at room.now base) }
-{
-    let i = place(room, base, most, handle);
-    if i < size(room, base) {
-        if words::low32(room, base + HEAD + SLOT * i) == handle {
-            return Found::At(i);
-        }
-    }
-    Found::Nothing
-}
-
-// The same as `place`: nothing is searched where it is the near one, or at the end.
-pub fn place_near(room: &[u8], base: usize, most: usize, near: usize, handle: u32) -> usize
-    requires stands { Stands base most room.now }
-    requires sorted { Sorted (table_at room.now base) }
-    ensures { result ≡ place_in handle (table_at room.now base) }
-{
-    if is_at(room, base, most, near, handle) {
-        return near;
-    }
-    let n = size(room, base);
-    if n == 0 {
-        return 0;
-    }
-    if handle_at(room, base, most, n - 1) < handle {
-        return n;
-    }
-    place(room, base, most, handle)
-}
-
-// The same as `find`, with a near place to try first.
-pub fn find_near(room: &[u8], base: usize, most: usize, near: usize, handle: u32) -> Found
-    requires stands { Stands base most room.now }
-    requires sorted { Sorted (table_at room.now base) }
-    ensures { result ≡ find_in handle (table_at room.now base) }
-{
-    if is_at(room, base, most, near, handle) {
-        return Found::At(near);
-    }
-    find(room, base, most, handle)
-}
-
-// A slot in the place of another.
-pub fn put_at(room: &mut [u8], base: usize, most: usize, i: usize, e: Slot)
-    requires stands { Stands base most room.old }
-    requires i_bound { i < low32_at room.old base }
-    ensures { Holds base most room.old room.new (set (table_at room.old base) i e) }
-{
-    store(room, base + HEAD + SLOT * i, e);
-}
-
-// The n bytes from a place on move up by a slot. Bytes, so that the compiler moves many at a time.
-fn move_up(room: &mut [u8], at: usize, n: usize)
-    requires { at + n + 24 ≤ length room.old }
-    ensures { MovedUp room.old room.new at n }
-{
-    let mut left = n;
-    while 0 < left {
-        left -= 1;
-        room[at + SLOT + left] = room[at + left];
-    }
-}
-
-// The n bytes from a slot after a place on move down by a slot.
-fn move_down(room: &mut [u8], at: usize, n: usize)
-    requires { at + n + 24 ≤ length room.old }
-    ensures { MovedDown room.old room.new at n }
-{
-    let mut j: usize = 0;
-    while j < n {
-        room[at + j] = room[at + SLOT + j];
-        j += 1;
-    }
-}
-
-// A slot more at a place; those from there on move up.
-pub fn insert_at(room: &mut [u8], base: usize, most: usize, i: usize, e: Slot)
-    requires stands { Stands base most room.old }
-    requires base_bound { low32_at room.old base < most }
-    requires most_bound { most < 4294967296 }
-    requires i_bound { i ≤ low32_at room.old base }
-    ensures { Holds base most room.old room.new (insert_at i e (table_at room.old base)) }
-{
-    let n = size(room, base);
-    move_up(room, base + HEAD + SLOT * i, SLOT * (n - i));
-    store(room, base + HEAD + SLOT * i, e);
-    words::put_low32(room, base, (n + 1) as u32);
-}
-
-// The slot at a place goes; those after it move down.
-pub fn remove_at(room: &mut [u8], base: usize, most: usize, i: usize)
-    requires stands { Stands base most room.old }
-    requires i_bound { i < low32_at room.old base }
-    ensures { Holds base most room.old room.new (remove_at i (table_at room.old base)) }
-{
-    let n = size(room, base);
-    move_down(room, base + HEAD + SLOT * i, SLOT * (n - 1 - i));
-    words::put_low32(room, base, (n - 1) as u32);
-}
-
-// A slot more at the end.
-pub fn push(room: &mut [u8], base: usize, most: usize, e: Slot)
-    requires stands { Stands base most room.old }
-    requires base_bound { low32_at room.old base < most }
-    requires most_bound { most < 4294967296 }
-    ensures { Holds base most room.old room.new (table_at room.old base ++ (e ∷ [])) }
-{
-    let end = size(room, base);
-    store(room, base + HEAD + SLOT * end, e);
-    words::put_low32(room, base, (end + 1) as u32);
-}
-
-// Another value in a column 0..3 of the slot i.
-pub fn put_value(room: &mut [u8], base: usize, most: usize, i: usize, column: usize, v: u32)
-    requires stands { Stands base most room.old }
-    requires i_bound { i < low32_at room.old base }
-    requires column_bound { column < 4 }
-    ensures { Holds base most room.old room.new
-        (set (table_at room.old base) i (with_value (get_or (table_at room.old base) i blank) column v)) }
-{
-    words::put_low32(room, base + HEAD + SLOT * i + 8 + 4 * column, v);
+// A table with room for `MOST` slots: its size at its base, and after it its slots.
+#[derive(Clone, Copy)]
+pub struct Table<const MOST: usize> {
+    pub base: usize,
 }
 
 // The 24 bytes of a slot at another place, with other marks: kind, mask and table in one word.
@@ -309,75 +86,290 @@ fn copy(room: &mut [u8], from: usize, to: usize, marks: u32)
     words::put_low32(room, to + 20, v3);
 }
 
-// The slot i of the table at `from` once more, at the end of another table.
-pub fn push_from(room: &mut [u8], base: usize, most: usize, from: usize, held: usize, i: usize)
-    requires stands { Stands base most room.old }
-    requires base_bound { low32_at room.old base < most }
-    requires most_bound { most < 4294967296 }
-    requires stands_2 { Stands from held room.old }
-    requires i_bound { i < low32_at room.old from }
-    ensures { Holds base most room.old room.new
-        (table_at room.old base ++ (get_or (table_at room.old from) i blank ∷ [])) }
+// The n bytes from a place on move up by a slot.
+fn move_up(room: &mut [u8], at: usize, n: usize)
+    requires { at + n + 24 ≤ length room.old }
+    ensures { MovedUp room.old room.new at n }
 {
-    let end = size(room, base);
-    let at = from + HEAD + SLOT * i;
-    let marks = words::low32(room, at + 4);
-    copy(room, at, base + HEAD + SLOT * end, marks);
-    words::put_low32(room, base, (end + 1) as u32);
+    room.copy_within(at..at + n, at + SLOT);
 }
 
-// The same, with the slot's place in `from` as its kind.
-pub fn push_place(room: &mut [u8], base: usize, most: usize, from: usize, held: usize, i: usize)
-    requires stands { Stands base most room.old }
-    requires base_bound { low32_at room.old base < most }
-    requires most_bound { most < 4294967296 }
-    requires stands_2 { Stands from held room.old }
-    requires i_bound { i < low32_at room.old from }
-    ensures { Holds base most room.old room.new
-        (table_at room.old base ++ (with_kind (get_or (table_at room.old from) i blank) (i % 256) ∷ [])) }
+// The n bytes from a slot after a place on move down by a slot.
+fn move_down(room: &mut [u8], at: usize, n: usize)
+    requires { at + n + 24 ≤ length room.old }
+    ensures { MovedDown room.old room.new at n }
 {
-    let end = size(room, base);
-    let at = from + HEAD + SLOT * i;
-    let marks = words::low32(room, at + 4) % 16777216 + (i % 256) as u32 * 16777216;
-    copy(room, at, base + HEAD + SLOT * end, marks);
-    words::put_low32(room, base, (end + 1) as u32);
+    room.copy_within(at + SLOT..at + SLOT + n, at);
 }
 
-// The n bytes from a place on once more, at a place after them all. Bytes, so that the compiler moves many at a time.
+// The n bytes from a place on once more, at a place after them all.
 fn copy_bytes(room: &mut [u8], from: usize, to: usize, n: usize)
     requires n_bound { from + n ≤ to }
     requires n_in_bounds { to + n ≤ length room.old }
     ensures { Copied room.old room.new from to n }
 {
-    let mut j: usize = 0;
-    while j < n {
-        room[to + j] = room[from + j];
-        j += 1;
+    room.copy_within(from..from + n, to);
+}
+
+impl<const MOST: usize> Table<MOST> {
+    // How many slots the table has.
+    pub fn size(self, room: &[u8]) -> usize
+        requires { self.base + 4 ≤ length room.now }
+        ensures { result ≡ low32_at room.now self.entry.base }
+    {
+        words::low32(room, self.base) as usize
     }
-}
 
-// The table at a base keeps its slots before a place; after them stand those of another table, which lies below it.
-pub fn put_tail(room: &mut [u8], base: usize, most: usize, first: usize, from: usize, held: usize)
-    requires stands { Stands base most room.old }
-    requires most_bound { most < 4294967296 }
-    requires stands_2 { Stands from held room.old }
-    requires held_bound { from + table_bytes held ≤ base }
-    requires first_bound { first ≤ low32_at room.old base }
-    requires from_bound { first + low32_at room.old from ≤ most }
-    ensures { Holds base most room.old room.new
-        (take first (table_at room.old base) ++ table_at room.old from) }
-{
-    let n = size(room, from);
-    copy_bytes(room, from + HEAD, base + HEAD + SLOT * first, SLOT * n);
-    words::put_low32(room, base, (first + n) as u32);
-}
+    // The slot i.
+    pub fn slot_at(self, room: &[u8], i: usize) -> Slot
+        requires stands { Stands self.base MOST room.now }
+        requires i_bound { i < low32_at room.now self.base }
+        ensures { result ≡ get_or (table_at room.now self.entry.base) i blank }
+    {
+        load(room, self.base + HEAD + SLOT * i)
+    }
 
-// The table has no slot any more.
-pub fn empty(room: &mut [u8], base: usize, most: usize)
-    requires { base + table_bytes most ≤ length room.old }
-    ensures { Holds base most room.old room.new [] }
-{
-    words::put_low32(room, base, 0);
+    // The handle of the slot i, without the rest of it.
+    pub fn handle_at(self, room: &[u8], i: usize) -> u32
+        requires stands { Stands self.base MOST room.now }
+        requires i_bound { i < low32_at room.now self.base }
+        ensures { result ≡ (get_or (table_at room.now self.entry.base) i blank).handle }
+    {
+        words::low32(room, self.base + HEAD + SLOT * i)
+    }
+
+    // The same for its kind.
+    pub fn kind_at(self, room: &[u8], i: usize) -> usize
+        requires stands { Stands self.base MOST room.now }
+        requires i_bound { i < low32_at room.now self.base }
+        ensures { result ≡ (get_or (table_at room.now self.entry.base) i blank).kind }
+    {
+        (words::low32(room, self.base + HEAD + SLOT * i + 4) / 16777216 % 256) as usize
+    }
+
+    // The same for its mask.
+    pub fn mask_at(self, room: &[u8], i: usize) -> usize
+        requires stands { Stands self.base MOST room.now }
+        requires i_bound { i < low32_at room.now self.base }
+        ensures { result ≡ (get_or (table_at room.now self.entry.base) i blank).mask }
+    {
+        (words::low32(room, self.base + HEAD + SLOT * i + 4) / 65536 % 256) as usize
+    }
+
+    // The same for its value in a column; past the last column it is 0.
+    pub fn value_at(self, room: &[u8], i: usize, column: usize) -> u32
+        requires stands { Stands self.base MOST room.now }
+        requires i_bound { i < low32_at room.now self.base }
+        ensures { result ≡ slot_value (get_or (table_at room.now self.entry.base) i blank) column }
+    {
+        if 4 <= column {
+            return 0;
+        }
+        words::low32(room, self.base + HEAD + SLOT * i + 8 + 4 * column)
+    }
+
+    // The same for its field `table`.
+    pub fn table_at(self, room: &[u8], i: usize) -> usize
+        requires stands { Stands self.base MOST room.now }
+        requires i_bound { i < low32_at room.now self.base }
+        ensures { result ≡ (get_or (table_at room.now self.entry.base) i blank).table }
+    {
+        (words::low32(room, self.base + HEAD + SLOT * i + 4) / 256 % 256) as usize
+    }
+
+    // How many slots at the front of a table by rising handle have a handle below another: by halving. What is searched is bytes, and no
+    // slice of slots that a method of the library could search.
+    pub fn place(self, room: &[u8], handle: u32) -> usize
+        requires stands { Stands self.base MOST room.now }
+        requires sorted { Sorted (table_at room.now self.base) }
+        ensures { result ≡ place_in handle (table_at room.now self.entry.base) }
+    {
+        let mut lo = 0;
+        let mut hi = self.size(room);
+        while lo < hi {
+            let mid = lo + (hi - lo) / 2;
+            if self.handle_at(room, mid) < handle {
+                lo = mid + 1;
+            } else {
+                hi = mid;
+            }
+        }
+        lo
+    }
+
+    // Whether the slot at a place of the table has a handle.
+    pub fn is_at(self, room: &[u8], i: usize, handle: u32) -> bool
+        requires { Stands self.base MOST room.now }
+        ensures { result ≡ hit handle i (table_at room.now self.entry.base) }
+    {
+        i < self.size(room) && self.handle_at(room, i) == handle
+    }
+
+    // Where the slot with a handle is in a table by rising handle.
+    pub fn find(self, room: &[u8], handle: u32) -> Option<usize>
+        requires stands { Stands self.base MOST room.now }
+        requires sorted { Sorted (table_at room.now self.base) }
+        ensures { result ≡ find_in handle (table_at room.now self.entry.base) }
+    {
+        let i = self.place(room, handle);
+        if self.is_at(room, i, handle) {
+            Some(i)
+        } else {
+            None
+        }
+    }
+
+    // The same as `place`: nothing is searched where it is the near one, or at the end.
+    pub fn place_near(self, room: &[u8], near: usize, handle: u32) -> usize
+        requires stands { Stands self.base MOST room.now }
+        requires sorted { Sorted (table_at room.now self.base) }
+        ensures { result ≡ place_in handle (table_at room.now self.entry.base) }
+    {
+        if self.is_at(room, near, handle) {
+            return near;
+        }
+        let n = self.size(room);
+        if n == 0 {
+            return 0;
+        }
+        if self.handle_at(room, n - 1) < handle {
+            return n;
+        }
+        self.place(room, handle)
+    }
+
+    // The same as `find`, with a near place to try first.
+    pub fn find_near(self, room: &[u8], near: usize, handle: u32) -> Option<usize>
+        requires stands { Stands self.base MOST room.now }
+        requires sorted { Sorted (table_at room.now self.base) }
+        ensures { result ≡ find_in handle (table_at room.now self.entry.base) }
+    {
+        if self.is_at(room, near, handle) {
+            return Some(near);
+        }
+        self.find(room, handle)
+    }
+
+    // A slot in the place of another.
+    pub fn put_at(self, room: &mut [u8], i: usize, e: Slot)
+        requires stands { Stands self.base MOST room.old }
+        requires i_bound { i < low32_at room.old self.base }
+        ensures { Holds self.entry.base MOST room.old room.new (set (table_at room.old self.entry.base) i e) }
+    {
+        store(room, self.base + HEAD + SLOT * i, e);
+    }
+
+    // A slot more at a place; those from there on move up.
+    pub fn insert_at(self, room: &mut [u8], i: usize, e: Slot)
+        requires stands { Stands self.base MOST room.old }
+        requires base_bound { low32_at room.old self.base < MOST }
+        requires most_bound { MOST < 4294967296 }
+        requires i_bound { i ≤ low32_at room.old self.base }
+        ensures { Holds self.entry.base MOST room.old room.new (insert_at i e (table_at room.old self.entry.base)) }
+    {
+        let n = self.size(room);
+        let at = self.base + HEAD + SLOT * i;
+        move_up(room, at, SLOT * (n - i));
+        store(room, at, e);
+        words::put_low32(room, self.base, (n + 1) as u32);
+    }
+
+    // The slot at a place goes; those after it move down.
+    pub fn remove_at(self, room: &mut [u8], i: usize)
+        requires stands { Stands self.base MOST room.old }
+        requires i_bound { i < low32_at room.old self.base }
+        ensures { Holds self.entry.base MOST room.old room.new (remove_at i (table_at room.old self.entry.base)) }
+    {
+        let n = self.size(room);
+        move_down(room, self.base + HEAD + SLOT * i, SLOT * (n - 1 - i));
+        words::put_low32(room, self.base, (n - 1) as u32);
+    }
+
+    // A slot more at the end.
+    pub fn push(self, room: &mut [u8], e: Slot)
+        requires stands { Stands self.base MOST room.old }
+        requires base_bound { low32_at room.old self.base < MOST }
+        requires most_bound { MOST < 4294967296 }
+        ensures { Holds self.entry.base MOST room.old room.new (table_at room.old self.entry.base ++ (e ∷ [])) }
+    {
+        let end = self.size(room);
+        store(room, self.base + HEAD + SLOT * end, e);
+        words::put_low32(room, self.base, (end + 1) as u32);
+    }
+
+    // Another value in a column 0..3 of the slot i.
+    pub fn put_value(self, room: &mut [u8], i: usize, column: usize, v: u32)
+        requires stands { Stands self.base MOST room.old }
+        requires i_bound { i < low32_at room.old self.base }
+        requires column_bound { column < 4 }
+        ensures { Holds self.entry.base MOST room.old room.new
+            (set (table_at room.old self.entry.base) i (with_value (get_or (table_at room.old self.entry.base) i blank) column v)) }
+    {
+        words::put_low32(room, self.base + HEAD + SLOT * i + 8 + 4 * column, v);
+    }
+
+    // The slot i of another table once more, at the end of this one.
+    pub fn push_from<const HELD: usize>(self, room: &mut [u8], from: Table<HELD>, i: usize)
+        requires stands { Stands self.base MOST room.old }
+        requires base_bound { low32_at room.old self.base < MOST }
+        requires most_bound { MOST < 4294967296 }
+        requires stands_2 { Stands from.base HELD room.old }
+        requires i_bound { i < low32_at room.old from.base }
+        ensures { Holds self.entry.base MOST room.old room.new
+            (table_at room.old self.entry.base ++ (get_or (table_at room.old from.entry.base) i blank ∷ [])) }
+    {
+        let end = self.size(room);
+        let at = from.base + HEAD + SLOT * i;
+        let marks = words::low32(room, at + 4);
+        copy(room, at, self.base + HEAD + SLOT * end, marks);
+        words::put_low32(room, self.base, (end + 1) as u32);
+    }
+
+    // The same, with the slot's place in the other table as its kind.
+    pub fn push_place<const HELD: usize>(self, room: &mut [u8], from: Table<HELD>, i: usize)
+        requires stands { Stands self.base MOST room.old }
+        requires base_bound { low32_at room.old self.base < MOST }
+        requires most_bound { MOST < 4294967296 }
+        requires stands_2 { Stands from.base HELD room.old }
+        requires i_bound { i < low32_at room.old from.base }
+        ensures { Holds self.entry.base MOST room.old room.new
+            (table_at room.old self.entry.base ++ (with_kind (get_or (table_at room.old from.entry.base) i blank) (i % 256) ∷ [])) }
+    {
+        let end = self.size(room);
+        let at = from.base + HEAD + SLOT * i;
+        let marks = words::low32(room, at + 4) % 16777216 + (i % 256) as u32 * 16777216;
+        copy(room, at, self.base + HEAD + SLOT * end, marks);
+        words::put_low32(room, self.base, (end + 1) as u32);
+    }
+
+    // The table keeps its slots before a place; after them stand those of another table, which lies below it.
+    pub fn put_tail<const HELD: usize>(self, room: &mut [u8], first: usize, from: Table<HELD>)
+        requires stands { Stands self.base MOST room.old }
+        requires most_bound { MOST < 4294967296 }
+        requires stands_2 { Stands from.base HELD room.old }
+        requires held_bound { from.base + table_bytes HELD ≤ self.base }
+        requires first_bound { first ≤ low32_at room.old self.base }
+        requires from_bound { first + low32_at room.old from.base ≤ MOST }
+        ensures { Holds self.entry.base MOST room.old room.new
+            (take first (table_at room.old self.entry.base) ++ table_at room.old from.entry.base) }
+    {
+        let n = from.size(room);
+        copy_bytes(
+            room,
+            from.base + HEAD,
+            self.base + HEAD + SLOT * first,
+            SLOT * n,
+        );
+        words::put_low32(room, self.base, (first + n) as u32);
+    }
+
+    // The table has no slot any more.
+    pub fn empty(self, room: &mut [u8])
+        requires { self.base + table_bytes MOST ≤ length room.old }
+        ensures { Holds self.entry.base MOST room.old room.new [] }
+    {
+        words::put_low32(room, self.base, 0);
+    }
 }
 
 // The first n bytes are zero.
@@ -385,9 +377,5 @@ pub fn clear(room: &mut [u8], n: usize)
     requires { n ≤ length room.old }
     ensures { room.new ≡ replicate n 0 ++ drop n room.old }
 {
-    let mut i: usize = 0;
-    while i < n {
-        room[i] = 0;
-        i += 1;
-    }
+    room[..n].fill(0);
 }

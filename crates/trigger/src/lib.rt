@@ -10,13 +10,6 @@ use book::Head;
 use plan::Plan;
 use room::Watch;
 
-// The first triggered rule, or that none is.
-#[derive(Clone, Copy)]
-pub enum Next {
-    Rule(usize),
-    Quiet,
-}
-
 // What a rule looks out for.
 pub fn watch(head: Head) -> Watch
     ensures { (result.table ≡ head.table) × (result.triggers ≡ head.triggers) × (result.columns ≡ head.columns) }
@@ -35,41 +28,34 @@ fn is_triggered(room: &[u8], s: &[u8], plan: Plan, k: usize) -> bool
     requires planned { Planned s.now plan.count plan }
     ensures { Triggers room.now s.now plan k result }
 {
-    let tables = plan.tables;
-    if 3 < tables[k] {
+    if 3 < plan.tables[k] {
         return false;
     }
-    let triggers = plan.triggers;
-    let columns = plan.columns;
     effects::triggered(
         room,
         k,
         Watch {
-            table: words::wide(tables[k]),
-            triggers: words::wide(triggers[k]),
-            columns: words::wide(columns[k]),
+            table: words::wide(plan.tables[k]),
+            triggers: words::wide(plan.triggers[k]),
+            columns: words::wide(plan.columns[k]),
         },
     )
 }
 
 // The first triggered rule in total order.
-pub fn first_triggered(room: &[u8], s: &[u8], plan: Plan) -> Next
+pub fn first_triggered(room: &[u8], s: &[u8], plan: Plan) -> Option<usize>
     requires laid { Laid room.now }
     requires count_bound { plan.count ≤ 16 }
     requires planned { Planned s.now plan.count plan }
     requires numbers { Numbers plan }
     ensures { TriggersFirst room.now s.now plan result }
 {
-    let order = plan.order;
-    let rules = order.rules;
-    let n = plan.count;
-    let mut left = n;
-    while 0 < left {
-        let k = words::wide(rules[n - left]);
+    let rules = plan.order?;
+    for &number in &rules[..plan.count] {
+        let k = words::wide(number);
         if is_triggered(room, s, plan, k) {
-            return Next::Rule(k);
+            return Some(k);
         }
-        left -= 1;
     }
-    Next::Quiet
+    None
 }
