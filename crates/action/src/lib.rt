@@ -16,14 +16,13 @@ ghost use Rattle.changes.specs.Steps.{Acts};
 ghost use Rattle.action.specs.Fit.{FitOperation, FitAction};
 
 use book::Action;
-use changes::{Reason, Step};
-use rows::Looked;
-use slots::Found;
+use changes::Stop;
+use rows::Reason;
 use terms::{Query, Terms};
 use transaction_log::Operation;
 
 // Inserts one row of values that stand in the log or the book.
-fn insert_values(room: &mut [u8], s: &[u8], table: usize, values: usize) -> Step
+fn insert_values(room: &mut [u8], s: &[u8], table: usize, values: usize) -> Result<(), Stop>
     requires running { Running room.old }
     requires table_bound { table ≤ 3 }
     requires values_len { length (values_at s.now 4 values) ≡ 4 }
@@ -34,37 +33,33 @@ fn insert_values(room: &mut [u8], s: &[u8], table: usize, values: usize) -> Step
 }
 
 // The log's delete of the row with a handle.
-fn delete_one(room: &mut [u8], handle: u32) -> Step
+fn delete_one(room: &mut [u8], handle: u32) -> Result<(), Stop>
     requires { Running room.old }
     ensures { Acts room.old room.new (Actions.operate (Covers.LogOperation.delete handle)) result }
 {
-    let deleted = rows::delete_row(room, handle);
-    let Looked::Made = deleted else {
-        return Step::Failed(Reason::NoSuchRow);
-    };
-    Step::Went
+    rows::delete_row(room, handle)?;
+    Ok(())
 }
 
 // The log's update of the row with a handle.
-fn update_one(room: &mut [u8], log: &[u8], handle: u32, mask: usize, values: usize) -> Step
+fn update_one(room: &mut [u8], log: &[u8], handle: u32, mask: usize, values: usize) -> Result<(), Stop>
     requires running { Running room.old }
     requires mask_bound { mask ≤ 15 }
     requires values_len { length (values_at log.now (ones mask) values) ≡ ones mask }
     ensures { Acts room.old room.new
         (Actions.operate (Covers.LogOperation.update handle mask (values_at log.now (ones mask) values))) result }
 {
-    let found = slots::find(room, room::LIVE, room::ROWS, handle);
-    let Found::At(i) = found else {
-        return Step::Failed(Reason::NoSuchRow);
+    let Some(i) = room::LIVE.find(room, handle) else {
+        return Err(Stop::Failed(Reason::NoSuchRow));
     };
-    let old = slots::slot_at(room, room::LIVE, room::ROWS, i);
+    let old = room::LIVE.slot_at(room, i);
     let new = working::with_values(log, values, mask, old);
-    rows::update_row(room, i, changes::narrow(mask), new);
-    Step::Went
+    rows::update_row(room, i, changes::narrow(mask), new)?;
+    Ok(())
 }
 
 // An operation of the log.
-pub fn operate(room: &mut [u8], log: &[u8], q: Operation) -> Step
+pub fn operate(room: &mut [u8], log: &[u8], q: Operation) -> Result<(), Stop>
     requires running { Running room.old }
     requires fit_operation { FitOperation (operation_meant log.now q) }
     ensures { Acts room.old room.new (Actions.operate (operation_meant log.now q)) result }
@@ -88,7 +83,7 @@ fn insert_from_query(
     table: usize,
     query: Query,
     expressions: usize,
-) -> Step
+) -> Result<(), Stop>
     requires running { Running room.old }
     requires table_bound { table ≤ 3 }
     requires expressions_len { length (expressions_at book.now 4 expressions) ≡ 4 }
@@ -97,14 +92,12 @@ fn insert_from_query(
         (query_meant book.now triggers query) (expressions_at book.now 4 expressions))) result }
 {
     query::choose(room, book, triggers, query);
-    if !working::work_out_all(room, book, expressions, 15) {
-        return Step::Failed(Reason::SumOutOfRange);
-    }
+    working::work_out_all(room, book, expressions, 15)?;
     changes::insert_all(room, table)
 }
 
 // Deletes the rows of a table of which all terms hold.
-fn delete_rows(room: &mut [u8], book: &[u8], triggers: usize, table: usize, terms: Terms) -> Step
+fn delete_rows(room: &mut [u8], book: &[u8], triggers: usize, table: usize, terms: Terms) -> Result<(), Stop>
     requires running { Running room.old }
     requires table_bound { table ≤ 3 }
     ensures { Acts room.old room.new
@@ -117,7 +110,7 @@ fn delete_rows(room: &mut [u8], book: &[u8], triggers: usize, table: usize, term
     };
     query::choose(room, book, triggers, q);
     changes::delete_all(room);
-    Step::Went
+    Ok(())
 }
 
 // Updates the rows of a table of which all terms hold.
@@ -129,7 +122,7 @@ fn update_rows(
     mask: usize,
     expressions: usize,
     terms: Terms,
-) -> Step
+) -> Result<(), Stop>
     requires running { Running room.old }
     requires table_bound { table ≤ 3 }
     requires mask_bound { mask ≤ 15 }
@@ -143,22 +136,20 @@ fn update_rows(
         terms,
     };
     query::choose(room, book, triggers, q);
-    if !working::work_out_all(room, book, expressions, mask) {
-        return Step::Failed(Reason::SumOutOfRange);
-    }
+    working::work_out_all(room, book, expressions, mask)?;
     changes::update_all(room, mask);
-    Step::Went
+    Ok(())
 }
 
 // An action of a rule with these triggers.
-pub fn perform(room: &mut [u8], book: &[u8], triggers: usize, a: Action) -> Step
+pub fn perform(room: &mut [u8], book: &[u8], triggers: usize, a: Action) -> Result<(), Stop>
     requires running { Running room.old }
     requires fit_action { FitAction (action_meant book.now triggers a) }
     ensures { Acts room.old room.new
         (Actions.perform (transition_in room.old) (action_meant book.now triggers a)) result }
 {
     match a {
-        Action::Rollback => Step::RolledBack,
+        Action::Rollback => Err(Stop::RolledBack),
         Action::Insert { table, values } => insert_values(room, book, table, values),
         Action::InsertFromQuery {
             table,

@@ -5,20 +5,8 @@
 
 ghost use Rattle.std.specs.Prelude.{◌≡◌, length};
 
-use engine::{Checked, Refusal};
+use engine::Refusal;
 use std::io;
-
-// The number of a refusal, as document 01 has it.
-fn refusal_number(r: Refusal) -> u64 {
-    match r {
-        Refusal::Output => 1,
-        Refusal::Room => 2,
-        Refusal::Image => 3,
-        Refusal::Book => 4,
-        Refusal::Cycle => 5,
-        Refusal::Log => 6,
-    }
-}
 
 // Each byte as a number, and the end of the line.
 fn print_bytes(rt: &impl Print, bytes: &[u8]) -> io::Result<()> {
@@ -28,10 +16,10 @@ fn print_bytes(rt: &impl Print, bytes: &[u8]) -> io::Result<()> {
     println!(rt)
 }
 
-fn print_answer(rt: &impl Print, answer: Checked) -> io::Result<()> {
+fn print_answer(rt: &impl Print, answer: Result<usize, Refusal>) -> io::Result<()> {
     match answer {
-        Checked::Refused(r) => println!(rt; " refused {}", refusal_number(r)),
-        Checked::Rules(n) => println!(rt; " rules {n}"),
+        Err(r) => println!(rt; " refused {}", numbers::refusal(r)),
+        Ok(n) => println!(rt; " rules {n}"),
     }
 }
 

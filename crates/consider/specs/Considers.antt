@@ -4,8 +4,7 @@ use Rattle.meaning.specs.Covers.{Image}
 use Rattle.meaning.specs.Processing.{State, consider}
 use Rattle.room.specs.Room.{END, Laid, Kept}
 use Rattle.room.specs.Represents.{Settled, Reached, seen}
-use Rattle.changes.specs.declared.Step.{Step}
-use Rattle.changes.specs.Steps.{Follows}
+use Rattle.changes.specs.Steps.{Follows, Step}
 use Rattle.plan.specs.declared.Plan.{Plan}
 use Rattle.plan.specs.Plans.{rules_in}
 

@@ -10,42 +10,37 @@ ghost use Rattle.room.specs.Room.{Laid, transition_in, live_rows};
 ghost use Rattle.room.specs.Represents.{Ready};
 ghost use Rattle.consider.specs.Considers.{Considers};
 
-use book::{Condition, RuleRead};
-use changes::Step;
+use changes::Stop;
 use plan::Plan;
+use terms::Query;
 
 // Whether the condition of a rule with these triggers is absent, or its query yields a row.
-fn condition_holds(room: &[u8], book: &[u8], triggers: usize, c: Condition) -> bool
+fn condition_holds(room: &[u8], book: &[u8], triggers: usize, c: Option<Query>) -> bool
     requires { Laid room.now }
     ensures { result ≡ Processing.condition_holds (transition_in room.now) (live_rows room.now)
         (condition_meant book.now triggers c) }
 {
     match c {
-        Condition::Absent => true,
-        Condition::Holds(q) => query::yields(room, book, triggers, q),
+        None => true,
+        Some(q) => query::yields(room, book, triggers, q),
     }
 }
 
 // Active rule k of a book with a plan.
-pub fn consider(room: &mut [u8], book: &[u8], plan: Plan, k: usize) -> Step
+pub fn consider(room: &mut [u8], book: &[u8], plan: Plan, k: usize) -> Result<(), Stop>
     requires ready { Ready room.old plan.tables }
     requires count_bound { (plan.count ≤ 16) × (k < plan.count) }
     requires planned { Planned book.now plan.count plan }
     requires k_bound { get_or plan.tables k 0 ≤ 3 }
     ensures { Considers room.old room.new book.now plan k result }
 {
-    let starts = plan.starts;
-    match book::rule_at(book, plan.count, starts[k]) {
-        RuleRead::Is { rule, next: _ } => {
-            let head = rule.head;
-            let condition = rule.condition;
-            let actions = rule.actions;
-            transition::draw(room, k, trigger::watch(head));
-            if condition_holds(room, book, head.triggers, condition) {
-                return series::run_actions(room, book, head.triggers, actions);
-            }
-            Step::Went
-        }
-        RuleRead::Bad => Step::Went,
+    let Some((rule, _next)) = book::rule_at(book, plan.count, plan.starts[k]) else {
+        return Ok(());
+    };
+    let triggers = rule.head.triggers;
+    transition::draw(room, k, trigger::watch(rule.head));
+    if !condition_holds(room, book, triggers, rule.condition) {
+        return Ok(());
     }
+    series::run_actions(room, book, triggers, rule.actions)
 }

@@ -1,9 +1,7 @@
 -- The contracts of the entry points leave no choice: of calls with the same entry, any two exits that meet the `ensures` are equal,
 -- refusals too.
 use Rattle.std.specs.Prelude.{◌≡◌, List, ℕ}
-use Rattle.engine.specs.declared.Answer.{Answer}
-use Rattle.engine.specs.declared.Checked.{Checked}
-use Rattle.engine.specs.Answers.{Checks, Gives, Runs}
+use Rattle.engine.specs.Answers.{Answer, Checked, Checks, Gives, Runs}
 
 -- any two exits that meet a contract are equal
 abbrev pub NoChoice : {Exit : Type 0} → (Exit → Type 0) → Type 0

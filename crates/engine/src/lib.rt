@@ -4,13 +4,11 @@
 
 ghost use Rattle.std.specs.Prelude.{◌≡◌, ◌≤◌, length, take};
 ghost use Rattle.meaning.specs.Base.{in_front_of};
-ghost use Rattle.engine.specs.Answers.{Checks, Gives, Runs};
+ghost use Rattle.meaning.specs.EntryPoints.{judge_book};
+ghost use Rattle.engine.specs.Answers.{Checks, Gives, Runs, rules_in};
 
-use book::BookRead;
-use image::ImageRead;
-use processing::Outcome;
+use processing::Ended;
 use transaction::ReadOff;
-use transaction_log::LogRead;
 
 // The refusals, in the order in which they are tried.
 #[derive(Clone, Copy)]
@@ -23,20 +21,6 @@ pub enum Refusal {
     Log,
 }
 
-// What a book check answers: a refusal, or the rule count.
-#[derive(Clone, Copy)]
-pub enum Checked {
-    Refused(Refusal),
-    Rules(usize),
-}
-
-// What a run answers: a refusal, or the outcome and the number of considerations.
-#[derive(Clone, Copy)]
-pub enum Answer {
-    Refused(Refusal),
-    Ran { outcome: Outcome, count: usize },
-}
-
 // A book check is lent an output of at least 16 bytes.
 pub const CHECK: usize = 16;
 
@@ -46,79 +30,67 @@ fn put_numbers(out: &mut [u8], rules: [u8; 16], n: usize)
     requires n_in_bounds { n ≤ length out.old }
     ensures { out.new ≡ in_front_of (take n rules) out.old }
 {
-    let mut i: usize = 0;
-    while i < n {
-        out[i] = rules[i];
-        i += 1;
-    }
+    out[..n].copy_from_slice(&rules[..n]);
 }
 
 // A run. A refusal and nothing changed; or the outcome and the number of considerations, the image at the
 // front of the output, later bytes untouched, and the first 65,536 bytes of working room zero.
-pub fn run(image: &[u8], book: &[u8], log: &[u8], out: &mut [u8], room: &mut [u8]) -> Answer
+pub fn run(
+    image: &[u8],
+    book: &[u8],
+    log: &[u8],
+    out: &mut [u8],
+    room: &mut [u8],
+) -> Result<Ended, Refusal>
     ensures { Runs image.now book.now log.now out.old out.new
         room.old room.new result }
 {
     if out.len() < transaction::OUTPUT {
-        return Answer::Refused(Refusal::Output);
+        return Err(Refusal::Output);
     }
     if room.len() < transaction::ROOM {
-        return Answer::Refused(Refusal::Room);
+        return Err(Refusal::Room);
     }
-    match image::judge(image) {
-        ImageRead::Is { next, count: rows } => match book::judge(book) {
-            BookRead::Is { limit, count } => {
-                let plan = plan::plan_of(book, count);
-                let order = plan.order;
-                if !order.found {
-                    return Answer::Refused(Refusal::Cycle);
-                }
-                match transaction_log::judge(log) {
-                    LogRead::Is { count: operations } => {
-                        let a = ReadOff {
-                            next,
-                            rows,
-                            plan,
-                            limit,
-                            operations,
-                        };
-                        let e = transaction::transact(image, book, log, a, out, room);
-                        let outcome = e.outcome;
-                        Answer::Ran {
-                            outcome,
-                            count: e.count,
-                        }
-                    }
-                    LogRead::Bad => Answer::Refused(Refusal::Log),
-                }
-            }
-            BookRead::Bad => Answer::Refused(Refusal::Book),
-        },
-        ImageRead::Bad => Answer::Refused(Refusal::Image),
+    let head = image::judge(image).ok_or(Refusal::Image)?;
+    let frame = book::judge(book).ok_or(Refusal::Book)?;
+    let plan = plan::plan_of(book, frame.count);
+    if plan.order.is_none() {
+        return Err(Refusal::Cycle);
     }
+    let operations = transaction_log::judge(log).ok_or(Refusal::Log)?;
+    let a = ReadOff {
+        next: head.next,
+        rows: head.count,
+        plan,
+        limit: frame.limit,
+        operations,
+    };
+    Ok(transaction::transact(image, book, log, a, out, room))
 }
 
 // Refusal 1, 4 or 5 and nothing written; or the rule count, and the rules' numbers in total order at the
 // front of the output, inactive rules included, later bytes untouched.
-pub fn check(book: &[u8], out: &mut [u8]) -> Checked
+pub fn check(book: &[u8], out: &mut [u8]) -> Result<usize, Refusal>
     ensures { Checks book.now out.old out.new result }
 {
     if out.len() < CHECK {
-        return Checked::Refused(Refusal::Output);
+        return Err(Refusal::Output);
     }
-    match book::judge(book) {
-        BookRead::Is { limit: _, count } => {
-            let plan = plan::plan_of(book, count);
-            let order = plan.order;
-            if !order.found {
-                return Checked::Refused(Refusal::Cycle);
-            }
-            let rules = order.rules;
-            put_numbers(out, rules, count);
-            Checked::Rules(count)
-        }
-        BookRead::Bad => Checked::Refused(Refusal::Book),
-    }
+    let frame = book::judge(book).ok_or(Refusal::Book)?;
+    let plan = plan::plan_of(book, frame.count);
+    let rules = plan.order.ok_or(Refusal::Cycle)?;
+    put_numbers(out, rules, frame.count);
+    Ok(frame.count)
+}
+
+// How many rules a book has that gets neither refusal 4 nor 5.
+pub fn rule_count(book: &[u8]) -> Option<usize>
+    ensures { result ≡ rules_in (judge_book book.now) }
+{
+    let frame = book::judge(book)?;
+    let plan = plan::plan_of(book, frame.count);
+    let _rules = plan.order?;
+    Some(frame.count)
 }
 
 // The bytes of rule k as a part of the caller's book: empty if the book has refusal 4 or 5 or there is no
@@ -126,15 +98,8 @@ pub fn check(book: &[u8], out: &mut [u8]) -> Checked
 pub fn rule(book: &[u8], k: usize) -> &[u8]
     ensures { Gives book.now k result.now }
 {
-    match book::judge(book) {
-        BookRead::Is { limit: _, count } => {
-            let plan = plan::plan_of(book, count);
-            let order = plan.order;
-            if !order.found {
-                return &book[..0];
-            }
-            book::rule_bytes(book, count, k)
-        }
-        BookRead::Bad => &book[..0],
+    match rule_count(book) {
+        Some(n) => book::rule_bytes(book, n, k),
+        None => &book[..0],
     }
 }

@@ -26,12 +26,9 @@ fn put_bytes(out: &mut [u8], at: usize, s: &[u8]) -> usize
     requires { at + length s.now ≤ length out.old }
     ensures { PutsAt out.old out.new at (length s.now) s.now result }
 {
-    let mut i: usize = 0;
-    while i < s.len() {
-        out[at + i] = s[i];
-        i += 1;
-    }
-    at + i
+    let end = at + s.len();
+    out[at..end].copy_from_slice(s);
+    end
 }
 
 // A number.
@@ -106,12 +103,10 @@ fn put_rows(out: &mut [u8], at: usize, image: &[u8], rows: usize) -> usize
         (row_lines (readable rows ByteLayouts.row image.now first_row)) result }
 {
     let mut here = at;
-    let mut left = rows;
     let mut from = image::FIRST;
-    while 0 < left {
+    for _ in 0..rows {
         here = put_row(out, here, image::row_at(image, from));
         from += image::ROW;
-        left -= 1;
     }
     here
 }

@@ -16,10 +16,8 @@ fn empty_waits(room: &mut [u8])
     requires { END ≤ length room.old }
     ensures { NoneWaits room.old room.new }
 {
-    let mut k: usize = 0;
-    while k < room::RULES {
-        slots::empty(room, room::WAITS + room::WAIT * k, room::ENTRIES);
-        k += 1;
+    for k in 0..room::RULES {
+        room::wait(k).empty(room);
     }
 }
 
@@ -28,12 +26,12 @@ fn empty_all(room: &mut [u8])
     requires { END ≤ length room.old }
     ensures { Emptied room.old room.new }
 {
-    slots::empty(room, room::LIVE, room::ROWS);
+    room::LIVE.empty(room);
     transition::empty_tables(room);
-    slots::empty(room, room::CHOSEN, room::ROWS);
-    slots::empty(room, room::WORKED, room::ROWS);
+    room::CHOSEN.empty(room);
+    room::WORKED.empty(room);
     empty_waits(room);
-    slots::empty(room, room::STRETCH, room::ENTRIES);
+    room::STRETCH.empty(room);
 }
 
 // The row of an image at a place joins the live rows.
@@ -44,10 +42,8 @@ fn load_row(room: &mut [u8], s: &[u8], at: usize)
     ensures { RowLoaded s.now at room.old room.new }
 {
     let r = image::row_at(s, at);
-    slots::push(
+    room::LIVE.push(
         room,
-        room::LIVE,
-        room::ROWS,
         Slot {
             handle: r.handle,
             kind: 0,
@@ -69,11 +65,9 @@ pub fn load(room: &mut [u8], s: &[u8], next: u32, count: usize)
 {
     words::put_low32(room, room::NEXT, next);
     empty_all(room);
-    let mut left = count;
     let mut here = image::FIRST;
-    while 0 < left {
+    for _ in 0..count {
         load_row(room, s, here);
         here += image::ROW;
-        left -= 1;
     }
 }

@@ -27,10 +27,8 @@ ghost use Rattle.engine.specs.Answers.{refusal_meant};
 ghost use Rattle.mordashun_c.specs.Answered.{answer_word, check_word, RunAnswered, CheckAnswered};
 ghost use Rattle.mordashun_c.specs.Places.{RuleAnswered, word_among};
 
-use book::{BookRead, RuleRead};
-use engine::{Answer, Checked, Refusal};
+use engine::Refusal;
 use processing::Outcome;
-use words::End;
 
 // What one of an outcome, of a reason and of a count is worth in the word.
 const OUTCOME: u64 = 256;
@@ -83,8 +81,8 @@ pub extern "C" fn mordashun_run(
         room.old room.new result }
 {
     match engine::run(image, book, log, out, room) {
-        Answer::Refused(r) => refused(r),
-        Answer::Ran { outcome, count } => ran(outcome, count),
+        Err(r) => refused(r),
+        Ok(ended) => ran(ended.outcome, ended.count),
     }
 }
 
@@ -94,8 +92,8 @@ pub extern "C" fn mordashun_check(book: &[u8], out: &mut [u8]) -> u64
     ensures { CheckAnswered book.now out.old out.new result }
 {
     match engine::check(book, out) {
-        Checked::Refused(r) => refused(r),
-        Checked::Rules(count) => rules(count),
+        Err(r) => refused(r),
+        Ok(count) => rules(count),
     }
 }
 
@@ -115,15 +113,9 @@ fn place_in(book: &[u8], n: usize, k: usize) -> u64
     requires book_len_bound { length book.now ≤ 5480 }
     ensures { result ≡ word_among book.now n k }
 {
-    if n <= k {
-        return NOWHERE;
-    }
-    match book::rules_end(book, n, book::FIRST, k) {
-        End::At(start) => match book::rule_at(book, n, start) {
-            RuleRead::Is { rule: _, next } => place(start, next - start),
-            RuleRead::Bad => NOWHERE,
-        },
-        End::Short => NOWHERE,
+    match book::rule_span(book, n, k) {
+        Some((start, end)) => place(start, end - start),
+        None => NOWHERE,
     }
 }
 
@@ -133,15 +125,8 @@ fn place_in(book: &[u8], n: usize, k: usize) -> u64
 pub extern "C" fn mordashun_rule(book: &[u8], k: usize) -> u64
     ensures { RuleAnswered book.now k result }
 {
-    match book::judge(book) {
-        BookRead::Is { limit: _, count } => {
-            let plan = plan::plan_of(book, count);
-            let order = plan.order;
-            if !order.found {
-                return NOWHERE;
-            }
-            place_in(book, count, k)
-        }
-        BookRead::Bad => NOWHERE,
+    match engine::rule_count(book) {
+        Some(n) => place_in(book, n, k),
+        None => NOWHERE,
     }
 }

@@ -7,9 +7,9 @@ ghost use Rattle.changes.specs.Steps.{reason_meant};
 ghost use Rattle.processing.specs.Endings.{outcome_meant};
 ghost use Rattle.engine.specs.Answers.{refusal_meant};
 
-use changes::Reason;
 use engine::Refusal;
 use processing::Outcome;
+use rows::Reason;
 
 // Refusal 7, input too long: only the program gives it.
 pub const INPUT_TOO_LONG: usize = 7;

@@ -16,7 +16,7 @@ fn live_row(room: &[u8], i: usize) -> Row
     requires i_bound { i < low32_at room.now LIVE }
     ensures { LiveRow room.now i result }
 {
-    let e = slots::slot_at(room, room::LIVE, room::ROWS, i);
+    let e = room::LIVE.slot_at(room, i);
     Row {
         handle: e.handle,
         table: words::wide(e.table),
@@ -33,14 +33,12 @@ pub fn put_image(out: &mut [u8], room: &[u8])
     requires in_bounds { 1355 ≤ length out.old }
     ensures { PutsImage room.now out.old out.new }
 {
-    let n = slots::size(room, room::LIVE);
+    let n = room::LIVE.size(room);
     image::put_head(out, words::low32(room, room::NEXT), n);
-    let mut left = n;
     let mut here = image::FIRST;
-    while 0 < left {
-        image::put_row(&mut out[here..], live_row(room, n - left));
+    for i in 0..n {
+        image::put_row(&mut out[here..], live_row(room, i));
         here += image::ROW;
-        left -= 1;
     }
 }
 
@@ -49,9 +47,5 @@ pub fn put_bytes(out: &mut [u8], s: &[u8])
     requires { length s.now ≤ length out.old }
     ensures { out.new ≡ in_front_of s.now out.old }
 {
-    let mut i: usize = 0;
-    while i < s.len() {
-        out[i] = s[i];
-        i += 1;
-    }
+    out[..s.len()].copy_from_slice(s);
 }

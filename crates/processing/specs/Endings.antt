@@ -8,6 +8,8 @@ use Rattle.meaning.specs.Made.{Sound}
 use Rattle.words.specs.Words.{low32_at, readable}
 use Rattle.room.specs.Room.{NEXT, END, Laid, Kept, live_rows}
 use Rattle.room.specs.Represents.{Represents, starting}
+use Rattle.changes.specs.declared.Stop.{Stop}
+use Rattle.changes.specs.declared.Stop.TheVariants as stop
 use Rattle.changes.specs.Steps.{reason_meant}
 use Rattle.plan.specs.declared.Plan.{Plan}
 use Rattle.plan.specs.Plans.{rules_in}
@@ -21,6 +23,11 @@ outcome_meant Commit = Covers.Outcome.commit
 outcome_meant RolledBack = Covers.Outcome.rolled_back
 outcome_meant StepLimit = Covers.Outcome.step_limit
 outcome_meant (Failed r) = Covers.Outcome.failed (reason_meant r)
+
+-- the outcome of a run that something ends
+abbrev pub stopped : Stop → Outcome
+stopped stop.RolledBack = RolledBack
+stopped (stop.Failed r) = Failed r
 
 -- a room that represents a run's start
 pub record Starts (xs tables : List ℕ) (rules : List Rule) : Type 0 where

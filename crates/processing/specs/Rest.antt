@@ -1,12 +1,11 @@
 -- The rest of a run, from a state that the working room represents: what is left to consider, and how that ends.
-use Rattle.std.specs.Prelude.{◌≡◌, List, ℕ, length}
+use Rattle.std.specs.Prelude.{◌≡◌, List, ℕ, length, Option}
 use Rattle.meaning.specs.Covers.{Image}
 use Rattle.meaning.specs.Processing.{State, steps}
 use Rattle.room.specs.Room.{END, Kept}
 use Rattle.room.specs.Represents.{Represents, Settled, Reached}
 use Rattle.plan.specs.declared.Plan.{Plan}
 use Rattle.plan.specs.Plans.{rules_in}
-use Rattle.trigger.specs.declared.Next.{Next}
 use Rattle.trigger.specs.Triggers.{order_in, TriggersFirst}
 use Rattle.processing.specs.declared.Ended.{Ended}
 use Rattle.processing.specs.Endings.{EndsAs}
@@ -30,7 +29,7 @@ pub record Rests (xs book : List ℕ) (plan : Plan) (start : Image) (s : State) 
   pub marks : length s.marks ≡ length (rules_in book plan.count)
 
 -- every state that is reached is then settled, and the first triggered rule was asked for; what stands past the tables stays
-pub record Looks (xs ys book : List ℕ) (plan : Plan) (r : Next) : Type 0 where
+pub record Looks (xs ys book : List ℕ) (plan : Plan) (r : Option ℕ) : Type 0 where
   pub beyond : Kept END (length xs) xs ys
   pub rests : (start : Image) (s : State) → Reaches xs book plan start s → Rests ys book plan start s
   pub first : TriggersFirst ys book plan r

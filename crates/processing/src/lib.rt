@@ -5,12 +5,12 @@
 ghost use Rattle.std.specs.Prelude.{◌≡◌, ◌+◌, ◌≤◌, ◌<◌};
 ghost use Rattle.plan.specs.Plans.{rules_in, Planned};
 ghost use Rattle.trigger.specs.Triggers.{Numbers};
-ghost use Rattle.processing.specs.Endings.{Starts, Processes};
+ghost use Rattle.processing.specs.Endings.{Starts, Processes, stopped};
 ghost use Rattle.processing.specs.Rest.{Midway, Looks, Steps};
 
-use changes::{Reason, Step};
+use changes::Stop;
 use plan::Plan;
-use trigger::Next;
+use rows::Reason;
 
 #[derive(Clone, Copy)]
 pub enum Outcome {
@@ -18,6 +18,17 @@ pub enum Outcome {
     RolledBack,
     StepLimit,
     Failed(Reason),
+}
+
+impl From<Stop> for Outcome {
+    ghost from_gives = { λ stop outcome. outcome ≡ stopped stop };
+
+    fn from(stop: Stop) -> Outcome {
+        match stop {
+            Stop::RolledBack => Outcome::RolledBack,
+            Stop::Failed(reason) => Outcome::Failed(reason),
+        }
+    }
 }
 
 // The outcome, and the number of considerations.
@@ -39,7 +50,7 @@ fn spend(b: &mut Budget)
     requires { b.old.count < b.old.limit }
     ensures { (b.new.count ≡ b.old.count + 1) × (b.new.limit ≡ b.old.limit) }
 {
-    b.count = b.count + 1;
+    b.count += 1;
 }
 
 // The budget after one consideration more.
@@ -60,15 +71,14 @@ fn ending(outcome: Outcome, count: usize) -> Ended
 }
 
 // What was done joins what waits; then the first triggered rule in total order.
-fn next_rule(room: &mut [u8], book: &[u8], plan: Plan) -> Next
+fn next_rule(room: &mut [u8], book: &[u8], plan: Plan) -> Option<usize>
     requires count_bound { plan.count ≤ 16 }
     requires planned { Planned book.now plan.count plan }
     requires numbers { Numbers plan }
     requires midway { Midway room.old book.now plan }
     ensures { Looks room.old room.new book.now plan result }
 {
-    let tables = plan.tables;
-    effects::settle(room, tables);
+    effects::settle(room, plan.tables);
     trigger::first_triggered(room, book, plan)
 }
 
@@ -82,27 +92,17 @@ fn steps(room: &mut [u8], book: &[u8], plan: Plan, limit: usize) -> Ended
 {
     let mut b = Budget { count: 0, limit };
     while b.count < b.limit {
-        match next_rule(room, book, plan) {
-            Next::Quiet => {
-                return ending(Outcome::Commit, b.count);
-            }
-            Next::Rule(k) => {
-                b = spent(b);
-                match consider::consider(room, book, plan, k) {
-                    Step::Went => {}
-                    Step::RolledBack => {
-                        return ending(Outcome::RolledBack, b.count);
-                    }
-                    Step::Failed(reason) => {
-                        return ending(Outcome::Failed(reason), b.count);
-                    }
-                }
-            }
+        let Some(k) = next_rule(room, book, plan) else {
+            return ending(Outcome::Commit, b.count);
+        };
+        b = spent(b);
+        if let Err(stop) = consider::consider(room, book, plan, k) {
+            return ending(stop.into(), b.count);
         }
     }
     match next_rule(room, book, plan) {
-        Next::Quiet => ending(Outcome::Commit, b.count),
-        Next::Rule(_) => ending(Outcome::StepLimit, b.count),
+        None => ending(Outcome::Commit, b.count),
+        Some(_) => ending(Outcome::StepLimit, b.count),
     }
 }
 
@@ -121,9 +121,8 @@ pub fn process(
     requires starts { Starts room.old plan.tables (rules_in book.now plan.count) }
     ensures { Processes room.old room.new book.now log.now plan limit operations result }
 {
-    match series::run_log(room, log, operations) {
-        Step::Went => steps(room, book, plan, limit),
-        Step::RolledBack => ending(Outcome::RolledBack, 0),
-        Step::Failed(reason) => ending(Outcome::Failed(reason), 0),
+    if let Err(stop) = series::run_log(room, log, operations) {
+        return ending(stop.into(), 0);
     }
+    steps(room, book, plan, limit)
 }

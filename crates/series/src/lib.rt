@@ -9,67 +9,38 @@ ghost use Rattle.room.specs.Room.{transition_in};
 ghost use Rattle.room.specs.Represents.{Running};
 ghost use Rattle.changes.specs.Steps.{Acts};
 
-use book::{ActionRead, Actions};
-use changes::Step;
-use transaction_log::OperationRead;
+use book::Actions;
+use changes::Stop;
 
 // The first `count` operations of a log.
-pub fn run_log(room: &mut [u8], log: &[u8], count: usize) -> Step
+pub fn run_log(room: &mut [u8], log: &[u8], count: usize) -> Result<(), Stop>
     requires { Running room.old }
     ensures { Acts room.old room.new (run_log (readable count operation log.now 7)) result }
 {
-    let mut left = count;
     let mut here = transaction_log::FIRST;
-    while 0 < left {
-        match transaction_log::operation_at(log, here) {
-            OperationRead::Is { operation, next } => {
-                match action::operate(room, log, operation) {
-                    Step::Went => {}
-                    Step::RolledBack => {
-                        return Step::RolledBack;
-                    }
-                    Step::Failed(reason) => {
-                        return Step::Failed(reason);
-                    }
-                }
-                here = next;
-                left -= 1;
-            }
-            OperationRead::Bad => {
-                return Step::Went;
-            }
-        }
+    for _ in 0..count {
+        let Some((operation, next)) = transaction_log::operation_at(log, here) else {
+            return Ok(());
+        };
+        action::operate(room, log, operation)?;
+        here = next;
     }
-    Step::Went
+    Ok(())
 }
 
 // The actions of a rule with these triggers, on the transition tables that stand in the room.
-pub fn run_actions(room: &mut [u8], book: &[u8], triggers: usize, actions: Actions) -> Step
+pub fn run_actions(room: &mut [u8], book: &[u8], triggers: usize, actions: Actions) -> Result<(), Stop>
     requires { Running room.old }
     ensures { Acts room.old room.new
         (run_actions (transition_in room.old) (actions_meant book.now triggers actions)) result }
 {
-    let mut left = actions.count;
     let mut here = actions.first;
-    while 0 < left {
-        match book::action_at(book, triggers, here) {
-            ActionRead::Is { action, next } => {
-                match action::perform(room, book, triggers, action) {
-                    Step::Went => {}
-                    Step::RolledBack => {
-                        return Step::RolledBack;
-                    }
-                    Step::Failed(reason) => {
-                        return Step::Failed(reason);
-                    }
-                }
-                here = next;
-                left -= 1;
-            }
-            ActionRead::Bad => {
-                return Step::Went;
-            }
-        }
+    for _ in 0..actions.count {
+        let Some((action, next)) = book::action_at(book, triggers, here) else {
+            return Ok(());
+        };
+        action::perform(room, book, triggers, action)?;
+        here = next;
     }
-    Step::Went
+    Ok(())
 }

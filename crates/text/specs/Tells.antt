@@ -5,8 +5,7 @@ use Rattle.meaning.specs.Reading.{read_all}
 use Rattle.meaning.specs.ByteLayouts as ByteLayouts
 use Rattle.meaning.specs.ByteLayouts.{image_bytes}
 use Rattle.meaning.specs.EntryPoints.{Verdict, refused, accepted, handed_back, answer_of, written, lines}
-use Rattle.engine.specs.declared.Answer.{Answer}
-use Rattle.engine.specs.Answers.{answer_meant}
+use Rattle.engine.specs.Answers.{Answer, answer_meant}
 use Rattle.lines.specs.Text.{Puts}
 
 -- the image of an accepted run can be read back from its bytes, and its count has at most ten digits

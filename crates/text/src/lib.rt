@@ -1,15 +1,13 @@
 // The program's text, from the bytes of its standard input: everything that the program decides.
 #![tactic(auto)]
 
-ghost use Rattle.std.specs.Prelude.{◌≡◌, ◌+◌, ◌≤◌, ◌<◌, length};
+ghost use Rattle.std.specs.Prelude.{◌≡◌, ◌+◌, ◌≤◌, ◌<◌, length, Ok};
 ghost use Rattle.meaning.specs.EntryPoints.{first_part};
-ghost use Rattle.engine.specs.declared.Answer.TheVariants.{Ran};
 ghost use Rattle.text.specs.Tells.{Telling, PutsLines};
 ghost use Rattle.text.specs.Texts.{Texts};
 
-use engine::Answer;
-use image::ImageRead;
-use processing::Outcome;
+use engine::Refusal;
+use processing::Ended;
 
 // An input has at most 16,384 bytes.
 pub const INPUT: usize = 16384;
@@ -30,36 +28,36 @@ fn part_end(s: &[u8]) -> usize
 }
 
 // The lines of a well-formed image that a run wrote, and of the outcome and count that it answered.
-fn put_ran(out: &mut [u8], outcome: Outcome, count: usize, image: &[u8]) -> usize
+fn put_ran(out: &mut [u8], ended: Ended, image: &[u8]) -> usize
     requires in_bounds { 16384 ≤ length out.old }
-    requires telling { Telling image.now (Ran outcome count) }
-    ensures { PutsLines out.old out.new image.now (Ran outcome count) result }
+    requires telling { Telling image.now (Ok ended) }
+    ensures { PutsLines out.old out.new image.now (Ok ended) result }
 {
     let n = part_end(image);
     let s = &image[0..n];
     match image::judge(s) {
-        ImageRead::Is { next, count: rows } => lines::put_run(
+        Some(head) => lines::put_run(
             out,
-            numbers::outcome(outcome),
-            numbers::reason(outcome),
-            count,
+            numbers::outcome(ended.outcome),
+            numbers::reason(ended.outcome),
+            ended.count,
             s,
-            next,
-            rows,
+            head.next,
+            head.count,
         ),
-        ImageRead::Bad => 0,
+        None => 0,
     }
 }
 
 // The lines of an answer, with the image that a run wrote.
-fn put_answer(out: &mut [u8], answer: Answer, image: &[u8]) -> usize
+fn put_answer(out: &mut [u8], answer: Result<Ended, Refusal>, image: &[u8]) -> usize
     requires in_bounds { 16384 ≤ length out.old }
     requires telling { Telling image.now answer }
     ensures { PutsLines out.old out.new image.now answer result }
 {
     match answer {
-        Answer::Refused(r) => lines::put_refused(out, numbers::refusal(r)),
-        Answer::Ran { outcome, count } => put_ran(out, outcome, count, image),
+        Err(r) => lines::put_refused(out, numbers::refusal(r)),
+        Ok(ended) => put_ran(out, ended, image),
     }
 }
 

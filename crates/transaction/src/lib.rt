@@ -30,12 +30,7 @@ pub const ROOM: usize = 65536;
 fn commits(outcome: Outcome) -> bool
     ensures { result ≡ committed outcome }
 {
-    match outcome {
-        Outcome::Commit => true,
-        Outcome::RolledBack => false,
-        Outcome::StepLimit => false,
-        Outcome::Failed(_) => false,
-    }
+    matches!(outcome, Outcome::Commit)
 }
 
 // The final image if the run commits, else the start image byte for byte.
@@ -68,9 +63,8 @@ pub fn transact(
         room.old room.new result }
 {
     loading::load(room, image, a.next, a.rows);
-    let e = processing::process(room, book, log, a.plan, a.limit, a.operations);
-    let outcome = e.outcome;
-    hand_back(out, image, room, outcome);
+    let ended = processing::process(room, book, log, a.plan, a.limit, a.operations);
+    hand_back(out, image, room, ended.outcome);
     slots::clear(room, ROOM);
-    e
+    ended
 }
