@@ -11,7 +11,13 @@ returns-in_err-column c = rw (← c.byte_within.ensures.reads, c.in_err-column.w
 pub returns-in_err-other : goal.returns-in_err-other
 unfolding term_or against_column column read_as
 returns-in_err-other c =
-    rw (← c.byte_within.ensures.reads, c.in_ok-column.was, ← c.byte_within-2.ensures.reads, c.in_err-other.was, c.from_residual-in_err-other.ensures)
+    rw (
+      ← c.byte_within.ensures.reads,
+      c.in_ok-column.was,
+      ← c.byte_within-2.ensures.reads,
+      c.in_err-other.was,
+      c.from_residual-in_err-other.ensures,
+    )
 
 pub returns : goal.returns
 unfolding term_or term_meant against_column column read_as

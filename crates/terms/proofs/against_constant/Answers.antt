@@ -11,7 +11,13 @@ returns-in_err-column c = rw (← c.byte_within.ensures.reads, c.in_err-column.w
 pub returns-in_err-constant : goal.returns-in_err-constant
 unfolding term_or ByteLayouts.against_constant ByteLayouts.column ByteLayouts.value read_as
 returns-in_err-constant c =
-    rw (← c.byte_within.ensures.reads, c.in_ok-column.was, ← c.number32.ensures, c.in_err-constant.was, c.from_residual-in_err-constant.ensures)
+    rw (
+      ← c.byte_within.ensures.reads,
+      c.in_ok-column.was,
+      ← c.number32.ensures,
+      c.in_err-constant.was,
+      c.from_residual-in_err-constant.ensures,
+    )
 
 pub returns : goal.returns
 unfolding term_or term_meant ByteLayouts.against_constant ByteLayouts.column ByteLayouts.value read_as

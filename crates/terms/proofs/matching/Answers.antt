@@ -20,10 +20,23 @@ pub returns-in_err-next : goal.returns-in_err-next
 unfolding source_or term_or matching read_as
 returns-in_err-next c =
     let pairs = many c.in_ok-count.count pair c.args.s.now c.in_ok-count.pairs in
-    rw (← c.source_at.ensures, c.in_ok-source.was, ← c.byte_within.ensures.reads, c.in_ok-count.was, short-bad pairs (sym c.many_end.ensures ∙ c.in_err-next.was), c.from_residual-in_err-next.ensures)
+    rw (
+      ← c.source_at.ensures,
+      c.in_ok-source.was,
+      ← c.byte_within.ensures.reads,
+      c.in_ok-count.was,
+      short-bad pairs (sym c.many_end.ensures ∙ c.in_err-next.was),
+      c.from_residual-in_err-next.ensures,
+    )
 
 pub returns : goal.returns
 unfolding source_or term_or term_meant matching read_as
 returns c =
     let ends = sym c.many_end.ensures ∙ c.in_ok-next.was in
-    rw (← c.source_at.ensures, c.in_ok-source.was, ← c.byte_within.ensures.reads, c.in_ok-count.was, ends-readable pair c.in_ok-count.count c.args.s.now c.in_ok-count.pairs c.in_ok-next.next ends)
+    rw (
+      ← c.source_at.ensures,
+      c.in_ok-source.was,
+      ← c.byte_within.ensures.reads,
+      c.in_ok-count.was,
+      ends-readable pair c.in_ok-count.count c.args.s.now c.in_ok-count.pairs c.in_ok-next.next ends,
+    )

@@ -13,9 +13,21 @@ returns-in_err-source c = rw (← c.byte_within.ensures.reads, c.in_err-source.w
 pub returns-then-not-source_fits : goal.returns-then-not-source_fits
 unfolding source_or source byte read_as
 returns-then-not-source_fits c =
-    rw (← c.byte_within.ensures.reads, c.in_ok-source.was, source-of c.args.triggers c.in_ok-source.source, ← c.source_fits.ensures, c.if-not-source_fits.true)
+    rw (
+      ← c.byte_within.ensures.reads,
+      c.in_ok-source.was,
+      source-of c.args.triggers c.in_ok-source.source,
+      ← c.source_fits.ensures,
+      c.if-not-source_fits.true,
+    )
 
 pub returns : goal.returns
 unfolding source_or source byte read_as
 returns c =
-    rw (← c.byte_within.ensures.reads, c.in_ok-source.was, source-of c.args.triggers c.in_ok-source.source, ← c.source_fits.ensures, c.if-not-source_fits.false)
+    rw (
+      ← c.byte_within.ensures.reads,
+      c.in_ok-source.was,
+      source-of c.args.triggers c.in_ok-source.source,
+      ← c.source_fits.ensures,
+      c.if-not-source_fits.false,
+    )

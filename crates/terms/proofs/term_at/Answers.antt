@@ -34,4 +34,11 @@ pub returns-in_default : goal.returns-in_default
 unfolding term_or term term_of byte read_as
 returns-in_default c =
     let op = c.in_ok-op.op in
-    rw (← c.byte_within.ensures.reads, c.in_ok-op.was, le-ltb op 6 (omega arith), le-ltb op 12 (omega arith), ne_eqb op 12 (omega arith), ne_eqb op 13 (omega arith))
+    rw (
+      ← c.byte_within.ensures.reads,
+      c.in_ok-op.was,
+      le-ltb op 6 (omega arith),
+      le-ltb op 12 (omega arith),
+      ne_eqb op 12 (omega arith),
+      ne_eqb op 13 (omega arith),
+    )

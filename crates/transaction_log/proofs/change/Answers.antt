@@ -27,7 +27,14 @@ unfolding operation_or change mask read_as
 returns-in_err-next c =
     let values = many (ones c.in_ok-mask.mask) value c.args.s.now c.in_ok-mask.values in
     let short = sym c.values_end.ensures ∙ c.in_err-next.was in
-    rw (← c.number32.ensures, c.in_ok-handle.was, ← c.byte_within.ensures.reads, c.in_ok-mask.was, short-bad values short, c.from_residual-in_err-next.ensures)
+    rw (
+      ← c.number32.ensures,
+      c.in_ok-handle.was,
+      ← c.byte_within.ensures.reads,
+      c.in_ok-mask.was,
+      short-bad values short,
+      c.from_residual-in_err-next.ensures,
+    )
 
 pub returns : goal.returns
 unfolding operation_or operation_meant change mask read_as

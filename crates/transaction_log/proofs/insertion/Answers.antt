@@ -16,7 +16,12 @@ pub returns-in_err-next : goal.returns-in_err-next
 unfolding operation_or insertion table read_as
 returns-in_err-next c =
     let short = sym c.values_end.ensures ∙ c.in_err-next.was in
-    rw (← c.byte_within.ensures.reads, c.in_ok-table.was, short-bad (many 4 value c.args.s.now c.in_ok-table.values) short, c.from_residual-in_err-next.ensures)
+    rw (
+      ← c.byte_within.ensures.reads,
+      c.in_ok-table.was,
+      short-bad (many 4 value c.args.s.now c.in_ok-table.values) short,
+      c.from_residual-in_err-next.ensures,
+    )
 
 pub returns : goal.returns
 unfolding operation_or operation_meant insertion table read_as

@@ -20,7 +20,7 @@ returns-in_err-count c =
     let bytes : Bytes c.args.s.now = λ i. (c.type_inv.s i).fits in
     let framed = passed c.well_framed.ensures c.if-not-well_framed.false in
     let none = sym (rw c.in_err-count.was at c.number16.ensures) in
-    rw (c.from_residual.ensures, log-no-count c.args.s.now bytes framed none)
+    rw c.from_residual.ensures (sym (log-no-count c.args.s.now bytes framed none))
 
 pub returns-then-count-gt-OPERATIONS : goal.returns-then-count-gt-OPERATIONS
 unfolding log_or option_as read_as
@@ -28,7 +28,7 @@ returns-then-count-gt-OPERATIONS c =
     let bytes : Bytes c.args.s.now = λ i. (c.type_inv.s i).fits in
     let framed = passed c.well_framed.ensures c.if-not-well_framed.false in
     let count = sym (rw c.in_ok-count.was at c.number16.ensures) in
-    rw (log-too-many c.args.s.now bytes framed c.in_ok-count.count c.in_ok-count.first count (omega arith))
+    sym (log-too-many c.args.s.now bytes framed c.in_ok-count.count c.in_ok-count.first count (omega arith))
 
 pub returns-in_err-many_end : goal.returns-in_err-many_end
 unfolding log_or option_as read_as
@@ -37,7 +37,8 @@ returns-in_err-many_end c =
     let framed = passed c.well_framed.ensures c.if-not-well_framed.false in
     let count = sym (rw c.in_ok-count.was at c.number16.ensures) in
     let short = sym c.many_end.ensures ∙ c.in_err-many_end.was in
-    rw (c.from_residual-in_err-many_end.ensures, log-malformed c.args.s.now bytes framed c.in_ok-count.count c.in_ok-count.first count (omega arith) short)
+    rw c.from_residual-in_err-many_end.ensures
+    (sym (log-malformed c.args.s.now bytes framed c.in_ok-count.count c.in_ok-count.first count (omega arith) short))
 
 pub returns-then-branch-s : goal.returns-then-branch-s
 unfolding log_or option_as read_as
@@ -46,7 +47,7 @@ returns-then-branch-s c =
     let framed = passed c.well_framed.ensures c.if-not-well_framed.false in
     let count = sym (rw c.in_ok-count.was at c.number16.ensures) in
     let ends = sym c.many_end.ensures ∙ c.in_ok-many_end.was in
-    rw (log-not-filled c.args.s.now bytes framed c.in_ok-count.count c.in_ok-count.first count (omega arith) c.in_ok-many_end.field-0 ends (omega arith))
+    sym (log-not-filled c.args.s.now bytes framed c.in_ok-count.count c.in_ok-count.first count (omega arith) _ ends (omega arith))
 
 pub returns : goal.returns
 unfolding log_or operations_meant option_as read_as
@@ -55,4 +56,4 @@ returns c =
     let framed = passed c.well_framed.ensures c.if-not-well_framed.false in
     let count = sym (rw c.in_ok-count.was at c.number16.ensures) in
     let ends = sym c.many_end.ensures ∙ c.in_ok-many_end.was in
-    rw (log-read c.args.s.now bytes framed c.in_ok-count.count c.in_ok-count.first count (omega arith) c.in_ok-many_end.field-0 ends (omega arith))
+    sym (log-read c.args.s.now bytes framed c.in_ok-count.count c.in_ok-count.first count (omega arith) _ ends (omega arith))

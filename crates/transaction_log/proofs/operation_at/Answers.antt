@@ -27,4 +27,10 @@ pub returns-in_default : goal.returns-in_default
 unfolding operation_or operation operation_of byte read_as
 returns-in_default c =
     let kind = c.in_ok-kind.kind in
-    rw (← c.byte_within.ensures.reads, c.in_ok-kind.was, ne_eqb kind 1 (omega arith), ne_eqb kind 2 (omega arith), ne_eqb kind 3 (omega arith))
+    rw (
+      ← c.byte_within.ensures.reads,
+      c.in_ok-kind.was,
+      ne_eqb kind 1 (omega arith),
+      ne_eqb kind 2 (omega arith),
+      ne_eqb kind 3 (omega arith),
+    )

@@ -10,7 +10,13 @@ returns-in_err-_own c = rw (← c.byte_within.ensures.reads, c.in_err-_own.was, 
 pub returns-in_err-_other : goal.returns-in_err-_other
 unfolding pair column read_as end_of
 returns-in_err-_other c =
-    rw (← c.byte_within.ensures.reads, c.in_ok-_own.was, ← c.byte_within-2.ensures.reads, c.in_err-_other.was, c.from_residual-in_err-_other.ensures)
+    rw (
+      ← c.byte_within.ensures.reads,
+      c.in_ok-_own.was,
+      ← c.byte_within-2.ensures.reads,
+      c.in_err-_other.was,
+      c.from_residual-in_err-_other.ensures,
+    )
 
 pub returns : goal.returns
 unfolding pair column read_as end_of
