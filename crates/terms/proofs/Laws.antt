@@ -1,31 +1,23 @@
--- Laws for decoders, by what `words::byte` and `words::has` answered. A parser of one byte gives the byte that was looked at, or is bad,
--- by whether the range admits it; a row source is read where the triggers admit it; a list that ends somewhere was read.
+-- Laws for decoders. A parser of one byte gives the byte that `words::byte` answered, or is bad, by whether the range admits it; a row source
+-- is read where `terms::source_fits` admits it.
 use Rattle.std.specs.Prelude.{if◌then◌else◌}
-use mathlib.Core.Path.{◌≡◌, refl, sym, ◌∙◌}
+use mathlib.Core.Path.{◌≡◌, refl}
 use mathlib.Core.Bool.{Bool, true, false, ◌||◌}
 use mathlib.Core.List.{List}
 use Prim.Native.Nat.{ℕ, ◌+◌, ◌≤◌, ◌<◌}
 use native.Mathlib.Omega.{arith}
-use borrow.Author.Tests.{ltb-true, ltb-false, le-ltb, leb-true, leb-false, eqb-true, ne_eqb}
-use lib.Dec.{eqb, leb, ltb}
+use borrow.Author.Tests.{ltb-true, ltb-false, eqb-true}
+use lib.Dec.{eqb, ltb}
 use Rattle.meaning.specs.Base.{bit}
 use Rattle.meaning.specs.Reading.{bad, got, Parser, ◌>>=◌, pure, malformed, byte_within, byte}
 use Rattle.meaning.specs.Covers.{Source}
-use Rattle.meaning.specs.ByteLayouts.{column, source_of, source}
+use Rattle.meaning.specs.ByteLayouts.{column, source_of}
 use Rattle.words.specs.Words.{Peeked}
 use Rattle.words.proofs.Laws.{split, byte-within-yes, byte-within-low, byte-within-high}
 use Rattle.terms.specs.Terms.{source_meant, source_fits}
 
--- ---- What was answered
+-- ---- A byte that was looked at, as it is read
 
--- an answer of `words::has`, as an order
-pub enough : (t : Bool) (n m : ℕ) → t ≡ leb n m → t ≡ true → n ≤ m
-enough t n m e h = leb-true n m (sym e ∙ h)
-
-pub too_few : (t : Bool) (n m : ℕ) → t ≡ leb n m → t ≡ false → m < n
-too_few t n m e h = leb-false n m (sym e ∙ h)
-
--- a byte that was looked at, as it is read
 module _ {s : List ℕ} {at r : ℕ} (l : Peeked s at r) where
   pub looked-within : (lo hi : ℕ) → lo ≤ r → r ≤ hi → byte_within lo hi s at ≡ got r (at + 1)
   looked-within lo hi low high = rw l.is (byte-within-yes lo hi s at (omega arith) (omega arith))
@@ -70,49 +62,13 @@ by-last-bit : (t : Bool) (x : Source) (s : List ℕ) (at : ℕ) → (if t then p
 by-last-bit true x s at = refl
 by-last-bit false x s at = refl
 
-module _ (triggers : ℕ) where
-  -- no number above 7 is admitted
-  fits-none : (n : ℕ) → 7 < n → source_fits triggers n ≡ false
-  unfolding source_fits
-  fits-none n h =
-      rw (le-ltb n 4 (omega arith), ne_eqb n 4 (λ q. omega arith), ne_eqb n 5 (λ q. omega arith))
-      (rw (ne_eqb n 6 (λ q. omega arith), ne_eqb n 7 (λ q. omega arith)))
-
-  pub source-of : (n : ℕ) (s : List ℕ) (at : ℕ)
-      → source_of triggers n s at ≡ (if source_fits triggers n then got (source_meant n) at else bad)
-  unfolding source_of source_fits source_meant
-  source-of n s at =
-      split (ltb n 4) (λ e. rw e) (λ e4.
-      split (eqb n 4) (λ e. rw (eqb-true n 4 e) (by_bit (bit triggers 0) Source.inserted s at)) (λ n4.
-      split (eqb n 5) (λ e. rw (eqb-true n 5 e) (by_bit (bit triggers 1) Source.deleted s at)) (λ n5.
-      split (eqb n 6) (λ e. rw (eqb-true n 6 e) (by_bit (bit triggers 2) Source.new_updated s at)) (λ n6.
-      split (eqb n 7) (λ e. rw (eqb-true n 7 e) (by-last-bit (bit triggers 2) Source.old_updated s at)) (λ n7.
-      rw (e4, n4, n5, n6, n7))))))
-
-  source-looked : {s : List ℕ} {at r : ℕ} → Peeked s at r
-      → source triggers s at ≡ (if source_fits triggers r then got (source_meant r) (at + 1) else bad)
-  unfolding source
-  source-looked {s} {at} {r} l =
-      split (ltb r 256)
-      (λ e. rw (byte-looked l (ltb-true r 256 e)) (source-of r s (at + 1)))
-      (λ e. rw (byte-missing l (ltb-false r 256 e), fits-none r (omega (arith, ltb-false r 256 e))))
-
-  -- by an answer of `terms::source_fits`
-  module _ (t : Bool) {r : ℕ} (e : t ≡ source_fits triggers r) where
-    pub source-admitted : {s : List ℕ} {at : ℕ} → Peeked s at r → t ≡ true → source triggers s at ≡ got (source_meant r) (at + 1)
-    source-admitted l h = rw (source-looked l, ← e, h)
-
-    pub source-refused : {s : List ℕ} {at : ℕ} → Peeked s at r → t ≡ false → source triggers s at ≡ bad
-    source-refused l h = rw (source-looked l, ← e, h)
-
-    pub admitted-small : t ≡ true → r < 8
-    admitted-small h =
-        split (ltb r 8)
-        (ltb-true r 8)
-        (λ big.
-        let none = fits-none r (omega (arith, ltb-false r 8 big)) in
-        let yes : t ≡ true = h in
-        let z : ◌≡◌ {A = ℕ} 0 1 = cc in
-        absurd (omega arith))
-
--- ---- Lists
+pub source-of : (triggers n : ℕ) (s : List ℕ) (at : ℕ)
+    → source_of triggers n s at ≡ (if source_fits triggers n then got (source_meant n) at else bad)
+unfolding source_of source_fits source_meant
+source-of triggers n s at =
+    split (ltb n 4) (λ e. rw e) (λ e4.
+    split (eqb n 4) (λ e. rw (eqb-true n 4 e) (by_bit (bit triggers 0) Source.inserted s at)) (λ n4.
+    split (eqb n 5) (λ e. rw (eqb-true n 5 e) (by_bit (bit triggers 1) Source.deleted s at)) (λ n5.
+    split (eqb n 6) (λ e. rw (eqb-true n 6 e) (by_bit (bit triggers 2) Source.new_updated s at)) (λ n6.
+    split (eqb n 7) (λ e. rw (eqb-true n 7 e) (by-last-bit (bit triggers 2) Source.old_updated s at)) (λ n7.
+    rw (e4, n4, n5, n6, n7))))))

@@ -1,48 +1,42 @@
 -- `terms::matching` meets its contract: a row source that the triggers admit, a number of pairs from 1 to 4, and the pairs.
-use borrow.Author.Rules.{rules}
 use mathlib.Core.Path.{sym, ◌∙◌}
-use native.Mathlib.Omega.{arith}
-use Prim.Native.Nat.{◌+◌}
-use Rattle.meaning.specs.ByteLayouts as ByteLayouts
-use Rattle.meaning.specs.ByteLayouts.{pair}
 use Rattle.meaning.specs.Reading.{many}
+use Rattle.meaning.specs.ByteLayouts.{matching, pair}
+use Rattle.words.specs.Words.{read_as}
 use Rattle.words.proofs.Laws.{short-bad, ends-readable}
-use Rattle.terms.specs.Terms.{term_or, term_meant}
-use Rattle.terms.proofs.Laws.{looked-within, looked-below, looked-above, source-admitted, source-refused, admitted-small}
+use Rattle.terms.specs.Terms.{source_or, term_or, term_meant}
 use Rattle.terms.proofs.matching.Goals as goal
 
-pub returns-then-not-source_fits : goal.returns-then-not-source_fits
-unfolding term_or ByteLayouts.matching
-returns-then-not-source_fits c =
-    rw (source-refused c.args.triggers _ c.source_fits.ensures c.byte-source.ensures c.if-not-source_fits.true)
+pub returns-in_err-source : goal.returns-in_err-source
+unfolding source_or term_or matching read_as
+returns-in_err-source c = rw (← c.source_at.ensures, c.in_err-source.was, c.from_residual.ensures)
 
-pub overflow_add-at : goal.overflow_add-at
-overflow_add-at c =
-    omega (arith, admitted-small c.args.triggers _ c.source_fits.ensures c.if-not-source_fits.false)
+pub returns-in_err-count : goal.returns-in_err-count
+unfolding source_or term_or matching read_as
+returns-in_err-count c =
+    rw (← c.source_at.ensures, c.in_ok-source.was, ← c.byte_within.ensures.reads, c.in_err-count.was, c.from_residual-in_err-count.ensures)
 
-pub returns-in-At : goal.returns-in-At
-unfolding term_or term_meant ByteLayouts.matching
-returns-in-At c =
-    rw (source-admitted c.args.triggers _ c.source_fits.ensures c.byte-source.ensures c.if-not-source_fits.false)
-    (rw (looked-within c.byte-count.ensures 1 4 (search rules) (search rules))
-    (rw (ends-readable pair c.byte-count.result c.args.s.now (c.args.at + 1 + 1) c.in-At.next (sym c.pairs_end.ensures ∙ c.in-At.is))))
+pub returns-in_err-next : goal.returns-in_err-next
+unfolding source_or term_or matching read_as
+returns-in_err-next c =
+    let pairs = many c.in_ok-count.count pair c.args.s.now c.in_ok-count.pairs in
+    rw (
+      ← c.source_at.ensures,
+      c.in_ok-source.was,
+      ← c.byte_within.ensures.reads,
+      c.in_ok-count.was,
+      short-bad pairs (sym c.many_end.ensures ∙ c.in_err-next.was),
+      c.from_residual-in_err-next.ensures,
+    )
 
-pub returns-in-Short : goal.returns-in-Short
-unfolding term_or ByteLayouts.matching
-returns-in-Short c =
-    let pairs = many c.byte-count.result pair c.args.s.now (c.args.at + 1 + 1) in
-    rw (source-admitted c.args.triggers _ c.source_fits.ensures c.byte-source.ensures c.if-not-source_fits.false)
-    (rw (looked-within c.byte-count.ensures 1 4 (search rules) (search rules))
-    (rw (short-bad pairs (sym c.pairs_end.ensures ∙ c.in-Short.is))))
-
-pub returns-in_default : goal.returns-in_default
-unfolding term_or ByteLayouts.matching
-returns-in_default c =
-    rw (source-admitted c.args.triggers _ c.source_fits.ensures c.byte-source.ensures c.if-not-source_fits.false)
-    (rw (looked-below c.byte-count.ensures 1 4 (omega arith)))
-
-pub returns-in_default-2 : goal.returns-in_default-2
-unfolding term_or ByteLayouts.matching
-returns-in_default-2 c =
-    rw (source-admitted c.args.triggers _ c.source_fits.ensures c.byte-source.ensures c.if-not-source_fits.false)
-    (rw (looked-above c.byte-count.ensures 1 4 (omega arith)))
+pub returns : goal.returns
+unfolding source_or term_or term_meant matching read_as
+returns c =
+    let ends = sym c.many_end.ensures ∙ c.in_ok-next.was in
+    rw (
+      ← c.source_at.ensures,
+      c.in_ok-source.was,
+      ← c.byte_within.ensures.reads,
+      c.in_ok-count.was,
+      ends-readable pair c.in_ok-count.count c.args.s.now c.in_ok-count.pairs c.in_ok-next.next ends,
+    )

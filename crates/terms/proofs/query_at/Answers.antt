@@ -1,27 +1,18 @@
 -- `terms::query_at` meets its contract: a row source that the triggers admit, and terms.
-use native.Mathlib.Omega.{arith}
-use Rattle.meaning.specs.ByteLayouts as ByteLayouts
-use Rattle.terms.specs.Terms.{terms_or, query_or, query_meant}
-use Rattle.terms.proofs.Laws.{source-admitted, source-refused, admitted-small}
+use Rattle.meaning.specs.ByteLayouts.{query}
+use Rattle.words.specs.Words.{read_as}
+use Rattle.terms.specs.Terms.{source_or, terms_or, query_or, query_meant}
 use Rattle.terms.proofs.query_at.Goals as goal
 
-pub returns-then-not-source_fits : goal.returns-then-not-source_fits
-unfolding query_or ByteLayouts.query
-returns-then-not-source_fits c =
-    rw (source-refused c.args.triggers _ c.source_fits.ensures c.byte-source.ensures c.if-not-source_fits.true)
+pub returns-in_err-source : goal.returns-in_err-source
+unfolding source_or query_or query read_as
+returns-in_err-source c = rw (← c.source_at.ensures, c.in_err-source.was, c.from_residual.ensures)
 
-pub overflow_add-at : goal.overflow_add-at
-overflow_add-at c =
-    omega (arith, admitted-small c.args.triggers _ c.source_fits.ensures c.if-not-source_fits.false)
+pub returns-in_err-terms : goal.returns-in_err-terms
+unfolding source_or terms_or query_or query read_as
+returns-in_err-terms c =
+    rw (← c.source_at.ensures, c.in_ok-source.was, ← c.terms_at.ensures, c.in_err-terms.was, c.from_residual-in_err-terms.ensures)
 
-pub returns-in-Is : goal.returns-in-Is
-unfolding terms_or query_or query_meant ByteLayouts.query
-returns-in-Is c =
-    rw (source-admitted c.args.triggers _ c.source_fits.ensures c.byte-source.ensures c.if-not-source_fits.false)
-    (rw (← c.terms_at.ensures, c.in-Is.is))
-
-pub returns-in-Bad : goal.returns-in-Bad
-unfolding terms_or query_or ByteLayouts.query
-returns-in-Bad c =
-    rw (source-admitted c.args.triggers _ c.source_fits.ensures c.byte-source.ensures c.if-not-source_fits.false)
-    (rw (← c.terms_at.ensures, c.in-Bad.is))
+pub returns : goal.returns
+unfolding source_or terms_or query_or query_meant query read_as
+returns c = rw (← c.source_at.ensures, c.in_ok-source.was, ← c.terms_at.ensures, c.in_ok-terms.was)

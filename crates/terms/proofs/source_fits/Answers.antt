@@ -34,4 +34,10 @@ returns-in-0-to-3 c = rw (lt-ltb c.args.n 4 (omega arith))
 pub returns-in_default : goal.returns-in_default
 unfolding source_fits
 returns-in_default c =
-    rw (le-ltb c.args.n 4 (omega arith), ne_eqb c.args.n 4 (omega arith), ne_eqb c.args.n 5 (omega arith), ne_eqb c.args.n 6 (omega arith), ne_eqb c.args.n 7 (omega arith))
+    rw (
+      le-ltb c.args.n 4 (omega arith),
+      ne_eqb c.args.n 4 (omega arith),
+      ne_eqb c.args.n 5 (omega arith),
+      ne_eqb c.args.n 6 (omega arith),
+      ne_eqb c.args.n 7 (omega arith),
+    )

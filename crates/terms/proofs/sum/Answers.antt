@@ -1,32 +1,24 @@
--- `terms::sum` meets its contract: a column, and a value whose four bytes stand in the slice after it.
-use lib.ListN.{length}
-use Prim.Native.Nat.{◌+◌}
+-- `terms::sum` meets its contract: a column, and a value after it.
 use Rattle.meaning.specs.ByteLayouts as ByteLayouts
-use Rattle.words.specs.Words.{Bytes}
-use Rattle.words.proofs.Laws.{value_read, value-short}
+use Rattle.words.specs.Words.{read_as}
 use Rattle.terms.specs.Terms.{expression_or, expression_meant}
-use Rattle.terms.proofs.Laws.{enough, too_few, column-looked, column-wrong}
 use Rattle.terms.proofs.sum.Goals as goal
 
-pub returns-then-c-gt3 : goal.returns-then-c-gt3
-unfolding expression_or ByteLayouts.sum
-returns-then-c-gt3 c = rw (column-wrong c.byte-c.ensures c.if-c-gt3.true)
+pub returns-in_err-column : goal.returns-in_err-column
+unfolding expression_or ByteLayouts.sum ByteLayouts.column read_as
+returns-in_err-column c = rw (← c.byte_within.ensures.reads, c.in_err-column.was, c.from_residual.ensures)
 
-pub returns-then-not-has : goal.returns-then-not-has
-unfolding expression_or ByteLayouts.sum
-returns-then-not-has c =
-    let bytes : Bytes c.args.s.now = λ i. (c.type_inv.s i).fits in
-    rw (column-looked c.byte-c.ensures c.if-c-gt3.false)
-    (rw (value-short c.args.s.now bytes (c.args.at + 1) (too_few _ (c.args.at + 1 + 4) (length c.args.s.now) c.has.ensures c.if-not-has.true)))
-
-pub word32-requires : goal.word32-requires
-word32-requires c =
-    enough _ (c.args.at + 1 + 4) (length c.args.s.now) c.has.ensures c.if-not-has.false
+pub returns-in_err-constant : goal.returns-in_err-constant
+unfolding expression_or ByteLayouts.sum ByteLayouts.column ByteLayouts.value read_as
+returns-in_err-constant c =
+    rw (
+      ← c.byte_within.ensures.reads,
+      c.in_ok-column.was,
+      ← c.number32.ensures,
+      c.in_err-constant.was,
+      c.from_residual-in_err-constant.ensures,
+    )
 
 pub returns : goal.returns
-unfolding expression_or expression_meant ByteLayouts.sum
-returns c =
-    let bytes : Bytes c.args.s.now = λ i. (c.type_inv.s i).fits in
-    rw (column-looked c.byte-c.ensures c.if-c-gt3.false)
-    (rw (value_read c.args.s.now bytes (c.args.at + 1) (enough _ (c.args.at + 1 + 4) (length c.args.s.now) c.has.ensures c.if-not-has.false))
-    (rw c.word32.ensures))
+unfolding expression_or expression_meant ByteLayouts.sum ByteLayouts.column ByteLayouts.value read_as
+returns c = rw (← c.byte_within.ensures.reads, c.in_ok-column.was, ← c.number32.ensures, c.in_ok-constant.was)

@@ -1,60 +1,59 @@
 -- `transaction_log::judge` meets its contract: each of its tests decides as the law of that case says.
 use mathlib.Core.Path.{sym, ◌∙◌}
 use native.Mathlib.Omega.{arith}
-use Rattle.words.specs.Words.{Bytes}
-use Rattle.fields.proofs.Laws.{passed, failed, stands, stands-not}
-use Rattle.transaction_log.specs.Log.{log_or}
-use Rattle.transaction_log.proofs.Laws.{log-unframed, log-no-count, log-too-many, log-malformed, log-not-filled, log-read}
+use Rattle.words.specs.Words.{Bytes, option_as, read_as}
+use Rattle.fields.proofs.Laws.{passed, failed, frame_refused}
+use Rattle.meaning.specs.ByteLayouts.{log}
+use Rattle.transaction_log.specs.Log.{log_or, operations_meant}
+use Rattle.transaction_log.proofs.Laws.{log-no-count, log-too-many, log-malformed, log-not-filled, log-read}
 use Rattle.transaction_log.proofs.judge.Goals as goal
 
 pub returns-then-not-well_framed : goal.returns-then-not-well_framed
-unfolding log_or
+unfolding log_or option_as log
 returns-then-not-well_framed c =
     let bytes : Bytes c.args.s.now = λ i. (c.type_inv.s i).fits in
-    sym (log-unframed c.args.s.now bytes (failed c.well_framed.ensures c.if-not-well_framed.true))
+    sym (frame_refused _ c.args.s.now bytes (failed c.well_framed.ensures c.if-not-well_framed.true))
 
-pub returns-then-not-has : goal.returns-then-not-has
-unfolding log_or
-returns-then-not-has c =
+pub returns-in_err-count : goal.returns-in_err-count
+unfolding log_or option_as read_as
+returns-in_err-count c =
     let bytes : Bytes c.args.s.now = λ i. (c.type_inv.s i).fits in
     let framed = passed c.well_framed.ensures c.if-not-well_framed.false in
-    sym (log-no-count c.args.s.now bytes framed (stands-not c.args.s.now 7 c.has.ensures c.if-not-has.true))
-
-pub word16-count-requires : goal.word16-count-requires
-word16-count-requires c =
-    stands c.args.s.now 7 c.has.ensures c.if-not-has.false
+    let none = sym (rw c.in_err-count.was at c.number16.ensures) in
+    rw c.from_residual.ensures (sym (log-no-count c.args.s.now bytes framed none))
 
 pub returns-then-count-gt-OPERATIONS : goal.returns-then-count-gt-OPERATIONS
-unfolding log_or
+unfolding log_or option_as read_as
 returns-then-count-gt-OPERATIONS c =
     let bytes : Bytes c.args.s.now = λ i. (c.type_inv.s i).fits in
     let framed = passed c.well_framed.ensures c.if-not-well_framed.false in
-    let count = stands c.args.s.now 7 c.has.ensures c.if-not-has.false in
-    sym (log-too-many c.args.s.now bytes framed count c.word16-count.result c.word16-count.ensures.0 (omega arith))
+    let count = sym (rw c.in_ok-count.was at c.number16.ensures) in
+    sym (log-too-many c.args.s.now bytes framed c.in_ok-count.count c.in_ok-count.first count (omega arith))
 
-pub returns-then-next-s : goal.returns-then-next-s
-unfolding log_or
-returns-then-next-s c =
+pub returns-in_err-many_end : goal.returns-in_err-many_end
+unfolding log_or option_as read_as
+returns-in_err-many_end c =
     let bytes : Bytes c.args.s.now = λ i. (c.type_inv.s i).fits in
     let framed = passed c.well_framed.ensures c.if-not-well_framed.false in
-    let count = stands c.args.s.now 7 c.has.ensures c.if-not-has.false in
-    let read = sym c.operations_end.ensures ∙ c.in-At.is in
-    sym (log-read c.args.s.now bytes framed count c.word16-count.result c.word16-count.ensures.0 (omega arith) c.in-At.next read (omega arith))
+    let count = sym (rw c.in_ok-count.was at c.number16.ensures) in
+    let short = sym c.many_end.ensures ∙ c.in_err-many_end.was in
+    rw c.from_residual-in_err-many_end.ensures
+    (sym (log-malformed c.args.s.now bytes framed c.in_ok-count.count c.in_ok-count.first count (omega arith) short))
 
-pub returns-else-next-s : goal.returns-else-next-s
-unfolding log_or
-returns-else-next-s c =
+pub returns-then-branch-s : goal.returns-then-branch-s
+unfolding log_or option_as read_as
+returns-then-branch-s c =
     let bytes : Bytes c.args.s.now = λ i. (c.type_inv.s i).fits in
     let framed = passed c.well_framed.ensures c.if-not-well_framed.false in
-    let count = stands c.args.s.now 7 c.has.ensures c.if-not-has.false in
-    let read = sym c.operations_end.ensures ∙ c.in-At.is in
-    sym (log-not-filled c.args.s.now bytes framed count c.word16-count.result c.word16-count.ensures.0 (omega arith) c.in-At.next read c.if-next-s.false)
+    let count = sym (rw c.in_ok-count.was at c.number16.ensures) in
+    let ends = sym c.many_end.ensures ∙ c.in_ok-many_end.was in
+    sym (log-not-filled c.args.s.now bytes framed c.in_ok-count.count c.in_ok-count.first count (omega arith) _ ends (omega arith))
 
-pub returns-in-Short : goal.returns-in-Short
-unfolding log_or
-returns-in-Short c =
+pub returns : goal.returns
+unfolding log_or operations_meant option_as read_as
+returns c =
     let bytes : Bytes c.args.s.now = λ i. (c.type_inv.s i).fits in
     let framed = passed c.well_framed.ensures c.if-not-well_framed.false in
-    let count = stands c.args.s.now 7 c.has.ensures c.if-not-has.false in
-    let short = sym c.operations_end.ensures ∙ c.in-Short.is in
-    sym (log-malformed c.args.s.now bytes framed count c.word16-count.result c.word16-count.ensures.0 (omega arith) short)
+    let count = sym (rw c.in_ok-count.was at c.number16.ensures) in
+    let ends = sym c.many_end.ensures ∙ c.in_ok-many_end.was in
+    sym (log-read c.args.s.now bytes framed c.in_ok-count.count c.in_ok-count.first count (omega arith) _ ends (omega arith))
