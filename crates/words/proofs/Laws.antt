@@ -18,7 +18,7 @@ use Rattle.meaning.specs.ByteLayouts.{value}
 use Rattle.meaning.specs.Values.{signed}
 use Rattle.meaning.proofs.Parsing.{on-from-got, same-value, same_place}
 use Rattle.meaning.proofs.RunsFit.{Gives}
-use Rattle.words.specs.Words.{Bytes, word16_at, word32_at, low32_at, low_bytes4, end_of, and_more, readable}
+use Rattle.words.specs.Words.{Bytes, word16_at, word32_at, low32_at, low_bytes4, read_as, read, end_of, and_more, readable}
 
 -- a test is true or false, and which is known
 pub split : {P : Type 0} (t : Bool) → (t ≡ true → P) → (t ≡ false → P) → P
@@ -166,6 +166,17 @@ first_of p (suc n) s at h e =
       more = simp unary_clauses (two ∙ ap (got ys) (same_place same));
       all = sym (same-value same);
     }))
+
+-- ---- What an answer tells that was read
+
+module _ {A : Type 0} {r : Option (A × ℕ)} {p : Read A} (same : read r ≡ p) where
+  pub reads-bad : r ≡ None → p ≡ bad
+  unfolding read_as
+  reads-bad was = sym same ∙ ap read was
+
+  pub reads-got : {x : A} {next : ℕ} → r ≡ Some (x, next) → p ≡ got x next
+  unfolding read_as
+  reads-got was = sym same ∙ ap read was
 
 -- ---- Where a structure ends
 
