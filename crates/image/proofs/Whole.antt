@@ -7,8 +7,8 @@ use mathlib.Core.List.{List}
 use mathlib.Core.Option.{none, some}
 use Prim.Native.Nat.{ℕ, ◌+◌, ◌*◌, ◌≤◌, ◌<◌}
 use native.Mathlib.Omega.{arith}
-use borrow.Author.Tests.{le-leb, lt-leb, leb-true, ltb-true, ltb-false}
-use lib.Dec.{leb, ltb}
+use borrow.Author.Tests.{le-leb, lt-leb, leb-true}
+use lib.Dec.{leb}
 use lib.ListN.{length, length-append}
 use Rattle.meaning.specs.Reading.{Read, bad, got, on_from, must, number16, number32, many, read_all}
 use Rattle.meaning.specs.Covers as Covers
@@ -24,7 +24,6 @@ use Rattle.words.proofs.Laws.{split, readable-many}
 use Rattle.fields.specs.Fields.{well_framed}
 use Rattle.fields.proofs.Laws.{frame_refused, fields-refused, length-refused, fields-taken}
 use Rattle.image.specs.Images.{image_meant, image_or, first_row, WellFormed, rise_in}
-use Rattle.image.specs.declared.Head.{Head}
 use Rattle.image.proofs.Laws.{row-size}
 
 -- ---- n rows
