@@ -1,6 +1,6 @@
 -- Laws of what image, book and log share, for any fields in a frame: what the frame admits is read from place 5 on and must end where the
 -- slice ends, what it refuses is bad. And n values are read where their 4 n bytes stand in the slice.
-use Rattle.std.specs.Prelude.{if◌then◌else◌}
+use Rattle.std.specs.Prelude.{if◌then◌else◌, Some, None}
 use mathlib.Core.Path.{◌≡◌, sym, ap, ◌∙◌}
 use mathlib.Core.Bool.{Bool, true, false}
 use mathlib.Core.List.{List}
@@ -14,7 +14,6 @@ use Rattle.meaning.specs.Reading.{Read, bad, got, Parser, on_from, byte_at, byte
 use Rattle.meaning.specs.ByteLayouts.{framed, value}
 use Rattle.meaning.specs.Values.{signed}
 use Rattle.words.specs.Words.{Bytes, word32_at, end_of}
-use Rattle.std.specs.Prelude.{Some, None}
 use Rattle.words.proofs.Laws.{split, byte-within-yes, byte-within-low, byte-within-high, number32-read, number32-short}
 use Rattle.words.proofs.Laws.{value_read, value-short, ends-got, ends-none, ends-bad, ends_more, ends-readable, short-bad}
 use Rattle.fields.specs.Fields.{well_framed, values_at}

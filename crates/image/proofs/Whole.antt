@@ -1,13 +1,14 @@
 -- Laws of a whole image. After the frame and the head the rows are read, and the image is well formed exactly where they rise and fill the
 -- slice.
+use Rattle.std.specs.Prelude.{Some}
 use mathlib.Core.Path.{◌≡◌, refl, sym, ap, ◌∙◌}
 use mathlib.Core.Bool.{true, false}
 use mathlib.Core.List.{List}
 use mathlib.Core.Option.{none, some}
 use Prim.Native.Nat.{ℕ, ◌+◌, ◌*◌, ◌≤◌, ◌<◌}
 use native.Mathlib.Omega.{arith}
-use borrow.Author.Tests.{le-leb, lt-leb, leb-true, ltb-true, ltb-false}
-use lib.Dec.{leb, ltb}
+use borrow.Author.Tests.{le-leb, lt-leb, leb-true}
+use lib.Dec.{leb}
 use lib.ListN.{length, length-append}
 use Rattle.meaning.specs.Reading.{Read, bad, got, on_from, must, number16, number32, many, read_all}
 use Rattle.meaning.specs.Covers as Covers
@@ -18,12 +19,11 @@ use Rattle.meaning.specs.Base.{Each, no_element, an_element}
 use Rattle.meaning.proofs.Parsing.{spans-as, spans-then, on-from-got, same-value, same_place}
 use Rattle.meaning.proofs.Parsing.{must-got, number16-reads, number32-reads, length-bytes2, length-bytes4, read-all, framed-got}
 use Rattle.meaning.proofs.RoundTrip.{FitRow, rows-read, image_fields}
-use Rattle.words.specs.Words.{Bytes, word16_at, word32_at, readable}
-use Rattle.words.proofs.Laws.{split, number16-read, number16-short, number32-read, number32-short, readable-many}
+use Rattle.words.specs.Words.{Bytes, option_as, readable}
+use Rattle.words.proofs.Laws.{split, readable-many}
 use Rattle.fields.specs.Fields.{well_framed}
 use Rattle.fields.proofs.Laws.{frame_refused, fields-refused, length-refused, fields-taken}
-use Rattle.image.specs.Images.{image_or, first_row, WellFormed, rise_in}
-use Rattle.image.specs.declared.ImageRead.TheVariants.{Is}
+use Rattle.image.specs.Images.{image_meant, image_or, first_row, WellFormed, rise_in}
 use Rattle.image.proofs.Laws.{row-size}
 
 -- ---- n rows
@@ -41,33 +41,10 @@ rows_end n s at e =
 
 -- ---- The fields of an image
 
-module _ (s : List ℕ) (b : Bytes s) where
-  fields-short : length s < 11 → image_fields s 5 ≡ bad
-  unfolding image_fields
-  fields-short h =
-      split (ltb (length s) 9)
-      (λ e. rw (number32-short s b 5 (ltb-true (length s) 9 e)))
-      (λ e.
-      rw (number32-read s b 5 (ltb-false (length s) 9 e))
-      (split (leb 1 (word32_at s 5)) (λ f. rw (f, number16-short s b 9 h)) (λ f. rw f)))
-
-  fields-no-next : 11 ≤ length s → word32_at s 5 < 1 → image_fields s 5 ≡ bad
-  unfolding image_fields
-  fields-no-next h k = rw (number32-read s b 5 (omega arith), lt-leb 1 (word32_at s 5) k)
-
-  fields-many : 11 ≤ length s → 1 ≤ word32_at s 5 → 64 < word16_at s 9 → image_fields s 5 ≡ bad
-  unfolding image_fields
-  fields-many h k m =
-      rw (number32-read s b 5 (omega arith), le-leb 1 (word32_at s 5) k, number16-read s b 9 h, lt-leb (word16_at s 9) 64 m)
-
+module _ (s : List ℕ) where
   -- what is made of the rows
   made : ℕ → Read (List Covers.Row) → Read Image
   made next x = on_from x (λ rs e. on_from (must (rising 0 next rs) s e) (λ _ e. got (record { next = next; rows = rs }) e))
-
-  fields-rows : 11 ≤ length s → 1 ≤ word32_at s 5 → word16_at s 9 ≤ 64 → image_fields s 5 ≡ made (word32_at s 5) (many (word16_at s 9) row s 11)
-  unfolding image_fields made
-  fields-rows h k m =
-      rw (number32-read s b 5 (omega arith), le-leb 1 (word32_at s 5) k, number16-read s b 9 h, le-leb (word16_at s 9) 64 m)
 
   made-no : (next : ℕ) (x : Read (List Covers.Row)) → rise_in 0 next x ≡ false → made next x ≡ bad
   unfolding made rise_in
@@ -80,54 +57,76 @@ module _ (s : List ℕ) (b : Bytes s) where
   made-yes next bad e = absurd (let z : ◌≡◌ {A = ℕ} 0 1 = cc in omega arith)
   made-yes next (got rs end) e = (end, rs, refl, rw e)
 
--- ---- What is judged, by the tests of a slice in their order
+-- ---- What is judged, by what is read of a slice and the tests of it in their order
 
 module _ (s : List ℕ) (b : Bytes s) where
   pub refused-frame : well_framed s ≡ false → read_all ByteLayouts.image s ≡ none
   unfolding ByteLayouts.image image_fields
   refused-frame w = frame_refused image_fields s b w
 
-  refused-fields : well_framed s ≡ true → image_fields s 5 ≡ bad → read_all ByteLayouts.image s ≡ none
-  unfolding ByteLayouts.image image_fields
-  refused-fields w e = fields-refused image_fields s b w e
+  module _ (w : well_framed s ≡ true) where
+    refused-fields : image_fields s 5 ≡ bad → read_all ByteLayouts.image s ≡ none
+    unfolding ByteLayouts.image image_fields
+    refused-fields e = fields-refused image_fields s b w e
 
-  pub refused-short : well_framed s ≡ true → length s < 11 → read_all ByteLayouts.image s ≡ none
-  refused-short w h = refused-fields w (fields-short s b h)
+    pub refused-short : number32 s 5 ≡ bad → read_all ByteLayouts.image s ≡ none
+    unfolding image_fields
+    refused-short e = refused-fields (rw e)
 
-  module _ (w : well_framed s ≡ true) (long : 11 ≤ length s) (next : ℕ) (next_at : next ≡ word32_at s 5) where
-    pub refused-next : next < 1 → read_all ByteLayouts.image s ≡ none
-    refused-next h = refused-fields w (fields-no-next s b long (omega arith))
+    module _ {next after : ℕ} (one : number32 s 5 ≡ got next after) where
+      pub refused-next : next < 1 → read_all ByteLayouts.image s ≡ none
+      unfolding image_fields
+      refused-next h = refused-fields (rw (one, lt-leb 1 next h))
 
-    module _ (some_next : 1 ≤ next) (count : ℕ) (count_at : count ≡ word16_at s 9) where
-      pub refused-count : 64 < count → read_all ByteLayouts.image s ≡ none
-      refused-count h = refused-fields w (fields-many s b long (omega arith) (omega arith))
+      module _ (some_next : 1 ≤ next) where
+        pub refused-uncounted : number16 s after ≡ bad → read_all ByteLayouts.image s ≡ none
+        unfolding image_fields
+        refused-uncounted e = refused-fields (rw (one, le-leb 1 next some_next, e))
 
-      module _ (few : count ≤ 64) where
-        fields_made : image_fields s 5 ≡ made s b next (many count row s 11)
-        fields_made = rw (next_at, count_at) (fields-rows s b long (omega arith) (omega arith))
+        module _ {count first : ℕ} (two : number16 s after ≡ got count first) where
+          pub refused-count : 64 < count → read_all ByteLayouts.image s ≡ none
+          unfolding image_fields
+          refused-count h = refused-fields (rw (one, le-leb 1 next some_next, two, lt-leb count 64 h))
 
-        pub refused-rows : rise_in 0 next (many count row s 11) ≡ false → read_all ByteLayouts.image s ≡ none
-        refused-rows e = refused-fields w (fields_made ∙ made-no s b next (many count row s 11) e)
+          -- the rows stand where the definition has them
+          pub head_ends : first ≡ first_row
+          head_ends =
+              omega (
+                arith,
+                (number32-reads.told one).ends,
+                (number16-reads.told two).ends,
+                length-bytes4 next,
+                length-bytes2 count,
+              )
 
-        pub refused-size : (length s ≡ 11 + count * 21 → ⊥) → read_all ByteLayouts.image s ≡ none
-        unfolding ByteLayouts.image image_fields
-        refused-size n =
-            split (rise_in 0 next (many count row s 11))
-            (λ e.
-            let m = made-yes s b next (many count row s 11) e in
-            let q = rows_end count s 11 m.2 in
-            length-refused image_fields s b w _ m.0 (fields_made ∙ m.3) (λ q2. n (omega arith)))
-            (λ e. refused-rows e)
+          module _ (few : count ≤ 64) where
+            fields_made : image_fields s 5 ≡ made s next (many count row s first)
+            unfolding image_fields made
+            fields_made = rw (one, le-leb 1 next some_next, two, le-leb count 64 few)
 
-        pub taken : length s ≡ 11 + count * 21 → rise_in 0 next (many count row s 11) ≡ true
-            → (image_or s (Is next count) ≡ read_all ByteLayouts.image s) × WellFormed s next count
-        unfolding ByteLayouts.image image_fields image_or
-        taken n e =
-            let m = made-yes s b next (many count row s 11) e in
-            let q = rows_end count s 11 m.2 in
-            let is : read_all ByteLayouts.image s ≡ some (record { next = next; rows = m.1 })
-            = fields-taken image_fields s b w _ m.0 (fields_made ∙ m.3) (omega arith) in
-            (rw (readable-many row count s 11 m.1 m.0 m.2) (sym is), record { rows = m.1; image = is; counted = q.0 })
+            pub refused-rows : rise_in 0 next (many count row s first) ≡ false → read_all ByteLayouts.image s ≡ none
+            refused-rows e = refused-fields (fields_made ∙ made-no s next (many count row s first) e)
+
+            pub refused-size : (length s ≡ first + count * 21 → ⊥) → read_all ByteLayouts.image s ≡ none
+            unfolding ByteLayouts.image image_fields
+            refused-size n =
+                split (rise_in 0 next (many count row s first))
+                (λ e.
+                let m = made-yes s next (many count row s first) e in
+                let q = rows_end count s first m.2 in
+                length-refused image_fields s b w _ m.0 (fields_made ∙ m.3) (λ q2. n (omega arith)))
+                (λ e. refused-rows e)
+
+            pub taken : length s ≡ first + count * 21 → rise_in 0 next (many count row s first) ≡ true
+                → (image_or s (Some (record { next = next; count = count })) ≡ read_all ByteLayouts.image s) × WellFormed s next count
+            unfolding ByteLayouts.image image_fields image_or image_meant option_as
+            taken n e =
+                let m = made-yes s next (many count row s first) e in
+                let q = rows_end count s first m.2 in
+                let rows = ap (λ (k : ℕ). many count row s k) (sym head_ends) ∙ m.2 in
+                let is : read_all ByteLayouts.image s ≡ some (record { next = next; rows = m.1 })
+                = fields-taken image_fields s b w _ m.0 (fields_made ∙ m.3) (omega arith) in
+                (rw (readable-many row count s first_row m.1 m.0 rows) (sym is), record { rows = m.1; image = is; counted = q.0 })
 
 -- ---- Where the parts of a well-formed image stand
 

@@ -1,6 +1,6 @@
 -- What the image's decoders answer, and what its writers write.
 use Rattle.std.specs.Prelude.{◌≡◌, Bool, false, List, [], ◌∷◌, ◌++◌, ℕ, leb, length, if◌then◌else◌, Option, Some, None}
-use Rattle.std.proofs.Math.Option.{Option as Maybe, none, some}
+use Rattle.std.proofs.Math.Option.{Option as Maybe, some}
 use Rattle.meaning.specs.Reading.{Read, bad, got, read_all}
 use Rattle.meaning.specs.Values.{signed}
 use Rattle.meaning.specs.Covers.{Image}

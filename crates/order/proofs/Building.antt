@@ -1,13 +1,14 @@
 -- The order while it is built: the array of taken rules says which rules stand in the order so far, so the code's test of a
 -- rule is the definition's, and each turn takes the rule that the definition takes. The promise is made for every list
 -- whose predecessor masks these are, since the loop sees the masks alone.
+use Rattle.std.specs.Prelude.{Option as Answer, Some, None}
 use mathlib.Core.Bool.{Bool, true, false, ◌||◌, not}
 use mathlib.Core.List.{List, [], ◌∷◌, ◌++◌}
 use mathlib.Core.Option.{Option, none, some}
-use mathlib.Core.Path.{◌≡◌, refl, sym, ◌∙◌}
-use Prim.Native.Nat.{ℕ, zero, suc, ◌-◌, ◌<◌, ◌≤◌}
+use mathlib.Core.Path.{◌≡◌, refl, sym, ap, ◌∙◌}
+use Prim.Native.Nat.{ℕ, zero, suc, ◌+◌, ◌-◌, ◌<◌, ◌≤◌}
 use native.Mathlib.Nat.{sub_self, sub-zero}
-use native.Mathlib.Numerals.{unary_clauses}
+use native.Mathlib.Numerals.{unary_clauses, add-one}
 use native.Mathlib.Omega.{arith}
 use borrow.Author.Tests.{eqb-true, eqb-false}
 use lib.Dec.{eqb}
@@ -15,23 +16,22 @@ use lib.ListN.{length, get_or, take, set, replicate, length-set, get_or-replicat
 use lib.Seq.{get_or-set_same, get_or-set_other, get_or-take, take-suc-set}
 use Rattle.meaning.specs.Base.{any, first_with, up_from}
 use Rattle.meaning.specs.Processing.TotalOrder.{numbers, precedes_rule, ready, take_from, order_of}
+use Rattle.words.specs.Words.{option_as}
 use Rattle.order.specs.Order.{ready_meant, MasksOf, passed, all_passed, may_go}
-use Rattle.order.specs.declared.ReadyRule.{ReadyRule}
-use Rattle.order.specs.declared.ReadyRule.TheVariants.{At, Nothing}
-use Rattle.order.proofs.Counted.{all_same, first-same, first_below}
+use Rattle.order.proofs.Numbers.{all_same, first-same, first_below}
 
 -- `taken` says of each rule of n whether it is among the rules so far
 pub Linked : ℕ → List Bool → List ℕ → Type 0
 Linked n taken sofar = (i : ℕ) → i < n → get_or taken i false ≡ any (eqb i) sofar
 
--- left rules are still to be taken, and the others stand at the front of `rules`
-pub record Building (n : ℕ) (masks : List ℕ) (left : ℕ) (taken : List Bool) (rules : List ℕ) : Type 0 where
-  pub within : left ≤ n
+-- so many rules as `rank` says are taken, and stand at the front of `rules`
+pub record Building (n : ℕ) (masks : List ℕ) (rank : ℕ) (taken : List Bool) (rules : List ℕ) : Type 0 where
+  pub within : rank ≤ n
   pub few : n ≤ 16
   pub places : length taken ≡ 16
   pub room : length rules ≡ 16
-  pub linked : Linked n taken (take (n - left) rules)
-  pub same : (ps : List ℕ) → length ps ≡ n → MasksOf ps n masks → order_of ps ≡ take_from ps left (take (n - left) rules)
+  pub linked : Linked n taken (take rank rules)
+  pub same : (ps : List ℕ) → length ps ≡ n → MasksOf ps n masks → order_of ps ≡ take_from ps (n - rank) (take rank rules)
 
 -- the masks of a list's first n are those of the list
 pub masks-of-front : (precedes : List ℕ) (n : ℕ) (masks : List ℕ) → MasksOf precedes n masks → MasksOf (take n precedes) n masks
@@ -97,61 +97,60 @@ linked-after n taken sofar j h linked i l = go (eqb i j) refl
     go false e =
         rw (any-not-last i j sofar e, get_or-set_other taken j i true false (eqb-false i j e)) (linked i l)
 
-pub nothing-taken : (n : ℕ) (masks : List ℕ) → n ≤ 16 → Building n masks n (replicate 16 false) (replicate 16 0)
+pub nothing-taken : (n : ℕ) (masks : List ℕ) → n ≤ 16 → Building n masks 0 (replicate 16 false) (replicate 16 0)
 unfolding Linked order_of
 nothing-taken n masks h = record {
   within = omega arith;
   few = h;
   places = refl;
   room = refl;
-  linked = λ i l. rw (sub_self n) (get_or-replicate 16 i false false (omega arith));
-  same = λ ps long m. rw (long, sub_self n);
+  linked = λ i l. get_or-replicate 16 i false false (omega arith);
+  same = λ ps long m. rw (long, sub-zero);
 }
 
-module _ {n : ℕ} {masks : List ℕ} {left : ℕ} {taken : List Bool} {rules : List ℕ} (b : Building n masks left taken rules) where
+module _ {n : ℕ} {masks : List ℕ} {rank : ℕ} {taken : List Bool} {rules : List ℕ} (b : Building n masks rank taken rules) where
   next-defined : (ps : List ℕ) → length ps ≡ n → MasksOf ps n masks
-      → first_with (may_go masks taken n) (up_from 0 n) ≡ first_with (ready ps (take (n - left) rules)) (numbers ps)
-  next-defined ps long m = next-same ps n masks taken (take (n - left) rules) long m b.linked
+      → first_with (may_go masks taken n) (up_from 0 n) ≡ first_with (ready ps (take rank rules)) (numbers ps)
+  next-defined ps long m = next-same ps n masks taken (take rank rules) long m b.linked
 
   pub next-below : (j : ℕ) → first_with (may_go masks taken n) (up_from 0 n) ≡ some j → j < 16
   next-below j e = omega (arith, b.few, first_below (may_go masks taken n) 0 n j e)
 
-  pub one-taken : (j : ℕ) → 0 < left → first_with (may_go masks taken n) (up_from 0 n) ≡ some j
-      → Building n masks (left - 1) (set taken j true) (set rules (n - left) j)
+  pub one-taken : (j : ℕ) → rank < n → first_with (may_go masks taken n) (up_from 0 n) ≡ some j
+      → Building n masks (rank + 1) (set taken j true) (set rules rank j)
   one-taken j h e =
       let below : j < n = omega (arith, first_below (may_go masks taken n) 0 n j e) in
       let place : j < length taken = omega (arith, b.places, b.few) in
-      let here : n - left < length rules = omega (arith, b.room, b.few) in
-      let up : n - (left - 1) ≡ suc (n - left) = omega (arith, b.within) in
+      let here : rank < length rules = omega (arith, b.room, b.few) in
+      let left : n - suc rank ≡ n - rank - 1 = omega arith in
       record {
-        within = omega (arith, b.within);
+        within = omega arith;
         few = b.few;
         places = simp length-set b.places;
         room = simp length-set b.room;
-        linked = rw (up, take-suc-set rules (n - left) j here) (linked-after n taken (take (n - left) rules) j place b.linked);
+        linked = rw (add-one, take-suc-set rules rank j here) (linked-after n taken (take rank rules) j place b.linked);
         same = λ ps long m.
-            rw (up, take-suc-set rules (n - left) j here)
-            (b.same ps long m ∙ takes ps left (take (n - left) rules) j h (sym (next-defined ps long m) ∙ e));
+            rw (add-one, left, take-suc-set rules rank j here)
+            (b.same ps long m ∙ takes ps (n - rank) (take rank rules) j (omega arith) (sym (next-defined ps long m) ∙ e));
       }
 
-  pub none-ready : (ps : List ℕ) → length ps ≡ n → MasksOf ps n masks → 0 < left
+  pub none-ready : (ps : List ℕ) → length ps ≡ n → MasksOf ps n masks → rank < n
       → first_with (may_go masks taken n) (up_from 0 n) ≡ none → order_of ps ≡ none
   none-ready ps long m h e =
-      b.same ps long m ∙ takes_none ps left (take (n - left) rules) h (sym (next-defined ps long m) ∙ e)
+      b.same ps long m ∙ takes_none ps (n - rank) (take rank rules) (omega arith) (sym (next-defined ps long m) ∙ e)
 
-  pub all-taken : (ps : List ℕ) → length ps ≡ n → MasksOf ps n masks → left ≤ 0 → order_of ps ≡ some (take n rules)
+  pub all-taken : (ps : List ℕ) → length ps ≡ n → MasksOf ps n masks → n ≤ rank → order_of ps ≡ some (take n rules)
   unfolding take_from
   all-taken ps long m h =
-      let none_left : left ≡ 0 = omega arith in
-      rw (none_left, sub-zero) at (b.same ps long m)
+      let full : rank ≡ n = omega (arith, b.within) in
+      rw (full, sub_self) at (b.same ps long m)
 
 -- what the search answers, by the case of its answer
-pub found_at : (r : ReadyRule) (o : Option ℕ) (j : ℕ) → r ≡ At j → ready_meant r ≡ o → o ≡ some j
-unfolding ready_meant
-found_at (At i) o j e m = cc
-found_at Nothing o j e m = cc
+module _ {r : Answer ℕ} {o : Option ℕ} (same : ready_meant r ≡ o) where
+  pub found_some : {j : ℕ} → r ≡ Some j → o ≡ some j
+  unfolding ready_meant option_as
+  found_some was = sym same ∙ ap ready_meant was
 
-pub found_nothing : (r : ReadyRule) (o : Option ℕ) → r ≡ Nothing → ready_meant r ≡ o → o ≡ none
-unfolding ready_meant
-found_nothing (At i) o e m = cc
-found_nothing Nothing o e m = cc
+  pub found_none : r ≡ None → o ≡ none
+  unfolding ready_meant option_as
+  found_none was = sym same ∙ ap ready_meant was

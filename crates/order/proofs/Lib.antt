@@ -1,3 +1,3 @@
-pub mod Counted
+pub mod Numbers
 pub mod Masks
 pub mod Building

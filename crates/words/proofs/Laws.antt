@@ -1,6 +1,6 @@
 -- Laws of reading and writing bytes, for decoders. A parser of the specification gives the number that stands at a place where its
 -- bytes stand in the slice, and is bad where they do not; n of them are read one by one; what was written is read again.
-use Rattle.std.specs.Prelude.{if◌then◌else◌}
+use Rattle.std.specs.Prelude.{if◌then◌else◌, Option, Some, None}
 use mathlib.Core.Path.{◌≡◌, refl, sym, ap, ◌∙◌}
 use mathlib.Core.Bool.{Bool, true, false, ◌&&◌}
 use mathlib.Core.List.{List, [], ◌∷◌}
@@ -18,8 +18,7 @@ use Rattle.meaning.specs.ByteLayouts.{value}
 use Rattle.meaning.specs.Values.{signed}
 use Rattle.meaning.proofs.Parsing.{on-from-got, same-value, same_place}
 use Rattle.meaning.proofs.RunsFit.{Gives}
-use Rattle.words.specs.Words.{Bytes, word16_at, word32_at, low32_at, low_bytes4, end_of, and_more, readable}
-use Rattle.std.specs.Prelude.{Option, Some, None}
+use Rattle.words.specs.Words.{Bytes, word16_at, word32_at, low32_at, low_bytes4, read_as, read, end_of, and_more, readable}
 
 -- a test is true or false, and which is known
 pub split : {P : Type 0} (t : Bool) → (t ≡ true → P) → (t ≡ false → P) → P
@@ -124,7 +123,7 @@ module _ (s : List ℕ) (b : Bytes s) (at : ℕ) where
   unfolding value
   value-short h = rw (number32-short h)
 
--- ---- n of them, one after another: by what the first gives, for a loop that counts down what is left
+-- ---- n of them, one after another: by what the first gives, for a loop over those that are left
 
 module _ {A : Type 0} (p : Parser A) where
   pub many-none : (n : ℕ) (s : List ℕ) (at : ℕ) → n ≤ 0 → many n p s at ≡ got [] at
@@ -167,6 +166,17 @@ first_of p (suc n) s at h e =
       more = simp unary_clauses (two ∙ ap (got ys) (same_place same));
       all = sym (same-value same);
     }))
+
+-- ---- What an answer tells that was read
+
+module _ {A : Type 0} {r : Option (A × ℕ)} {p : Read A} (same : read r ≡ p) where
+  pub reads-bad : r ≡ None → p ≡ bad
+  unfolding read_as
+  reads-bad was = sym same ∙ ap read was
+
+  pub reads-got : {x : A} {next : ℕ} → r ≡ Some (x, next) → p ≡ got x next
+  unfolding read_as
+  reads-got was = sym same ∙ ap read was
 
 -- ---- Where a structure ends
 

@@ -214,10 +214,7 @@ pub fn plus(a: u32, b: u32) -> Option<u32>
     ensures { sum_meant result ≡ values_plus (signed a) (signed b) }
 {
     let t = (lifted(a) as u64) + (lifted(b) as u64);
-    if t < 2147483648 {
-        return None;
-    }
-    if t >= 6442450944 {
+    if t < 2147483648 || t >= 6442450944 {
         return None;
     }
     Some((t % 4294967296) as u32)

@@ -1,28 +1,18 @@
--- `order::all_passed` meets its contract. The loop's invariant: the answer is that of the rules still to be tested.
-use mathlib.Core.Path.{sym, ◌∙◌}
-use native.Mathlib.Omega.{arith}
-use Rattle.order.specs.Order.{all_passed}
-use Rattle.order.proofs.Counted.{all_left, all-go-on, all-fail, none-to-go}
+-- `order::all_passed` meets its contract: the code asks of each number what the definition asks.
+use mathlib.Core.Bool.{true, false}
+use mathlib.Core.Path.{◌≡◌, refl}
+use Rattle.std.proofs.Common.{rules, tests}
+use Rattle.std.proofs.lemmas.Iterator.{cases_from_all, YieldsList-from_range}
+use Rattle.order.specs.Order.{passed, all_passed}
+use Rattle.order.proofs.Numbers.{all-answered}
 use Rattle.order.proofs.all_passed.Goals as goal
-
-pub loop-left-init : goal.loop-left-init
-loop-left-init c = all_left
-
-pub returns-then-not-is_passed : goal.returns-then-not-is_passed
-unfolding all_passed
-returns-then-not-is_passed c =
-    all-fail _
-    c.loop-left.invariant
-    (omega arith)
-    (sym c.is_passed.ensures ∙ c.if-not-is_passed.true)
-
-pub loop-left-preserved : goal.loop-left-preserved
-loop-left-preserved c =
-    all-go-on _
-    c.loop-left.invariant
-    (omega arith)
-    (sym c.is_passed.ensures ∙ c.if-not-is_passed.false)
 
 pub returns : goal.returns
 unfolding all_passed
-returns c = none-to-go c.loop-left.invariant (omega arith)
+returns c =
+    let p = passed c.args.mask c.args.taken in
+    let numbers = YieldsList-from_range 0 c.args.n c.args.n refl (search rules) in
+    all-answered p c.args.n c.all.result
+    (cases_from_all _ _ _ (λ i. p i ≡ true) (λ i. p i ≡ false) c.all.ensures.ran numbers
+    (λ x q k. search (rules, tests))
+    (λ x q k. search (rules, tests)))

@@ -3,10 +3,10 @@ use mathlib.Core.Path.{sym, ◌∙◌}
 use Rattle.order.specs.Order.{passed}
 use Rattle.order.proofs.is_passed.Goals as goal
 
-pub returns-then-has_bit : goal.returns-then-has_bit
+pub returns-then-not-has_bit : goal.returns-then-not-has_bit
 unfolding passed
-returns-then-has_bit c = rw (sym c.has_bit.ensures ∙ c.if-has_bit.true)
+returns-then-not-has_bit c = rw (c.if-not-has_bit.true, sym c.has_bit.ensures ∙ c.if-not-has_bit.true)
 
-pub returns : goal.returns
+pub returns-else-not-has_bit : goal.returns-else-not-has_bit
 unfolding passed
-returns c = rw (sym c.has_bit.ensures ∙ c.if-has_bit.false)
+returns-else-not-has_bit c = rw (sym c.has_bit.ensures ∙ c.if-not-has_bit.false)

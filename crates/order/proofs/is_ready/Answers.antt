@@ -2,10 +2,10 @@
 use Rattle.order.specs.Order.{may_go}
 use Rattle.order.proofs.is_ready.Goals as goal
 
-pub returns-then-taken-j : goal.returns-then-taken-j
+pub returns-then-not-taken-j : goal.returns-then-not-taken-j
 unfolding may_go
-returns-then-taken-j c = rw c.if-taken-j.true
+returns-then-not-taken-j c = rw c.if-not-taken-j.true c.all_passed.ensures
 
-pub returns : goal.returns
+pub returns-else-not-taken-j : goal.returns-else-not-taken-j
 unfolding may_go
-returns c = rw c.if-taken-j.false c.all_passed.ensures
+returns-else-not-taken-j c = rw c.if-not-taken-j.false

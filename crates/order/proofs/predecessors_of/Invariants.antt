@@ -4,6 +4,3 @@ use Rattle.order.proofs.predecessors_of.Given as goal
 
 abbrev pub invariant-loop-i : goal.invariant-loop-i
 invariant-loop-i l = MaskFrom l.precedes l.n l.j l.i l.mask
-
-abbrev pub decreases-loop-i : goal.decreases-loop-i
-decreases-loop-i l = l.i

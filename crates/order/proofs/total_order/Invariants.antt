@@ -3,8 +3,5 @@
 use Rattle.order.proofs.Building.{Building}
 use Rattle.order.proofs.total_order.Given as goal
 
-abbrev pub invariant-loop-left : goal.invariant-loop-left
-invariant-loop-left l = Building l.n l.masks l.left l.taken l.rules
-
-abbrev pub decreases-loop-left : goal.decreases-loop-left
-decreases-loop-left l = l.left
+abbrev pub invariant-loop-rank : goal.invariant-loop-rank
+invariant-loop-rank l = Building l.n l.masks l.rank l.taken l.rules

@@ -1,22 +1,21 @@
 -- `words::plus` meets its contract: lifted words have the sum of the values, which is a word's where it is in the range.
 use borrow.Author.Rules.{rules}
+use mathlib.Core.Logic.{inl, inr}
 use mathlib.Core.Path.{sym}
-use Rattle.words.specs.Words.{sum_meant}
+use Rattle.words.specs.Words.{option_as}
 use Rattle.words.proofs.Signs.{sum_low, sum-high, sum-in}
 use Rattle.words.proofs.plus.Goals as goal
 
 pub returns-then-t-lt2147483648 : goal.returns-then-t-lt2147483648
-unfolding sum_meant
+unfolding option_as
 returns-then-t-lt2147483648 c =
-    sym (sum_low c.args.a c.args.b (search rules) (search rules) (search rules))
-
-pub returns-then-t-ge6442450944 : goal.returns-then-t-ge6442450944
-unfolding sum_meant
-returns-then-t-ge6442450944 c =
-    sym (sum-high c.args.a c.args.b (search rules) (search rules) (search rules))
+    elim c.then-t-lt2147483648.either [
+      | inl low ↦ sym (sum_low c.args.a c.args.b (search rules) (search rules) (search rules))
+      | inr high ↦ sym (sum-high c.args.a c.args.b (search rules) (search rules) (search rules))
+    ]
 
 pub returns : goal.returns
-unfolding sum_meant
+unfolding option_as
 returns c =
     rw (c.lifted.ensures, c.lifted-2.ensures)
     (sym (sum-in c.args.a c.args.b (search rules) (search rules) (search rules) (search rules)))
