@@ -80,7 +80,7 @@ module _ (s : List ℕ) where
   unfolding byte
   byte_inside at = byte-within-inside 0 255 at (omega arith)
 
-  number16-inside : (at : ℕ) → Inside s at (number16 s at)
+  pub number16-inside : (at : ℕ) → Inside s at (number16 s at)
   unfolding number16
   number16-inside at = on _ (byte_inside at) (λ high k _. on _ (byte_inside k) (λ low e l. here l))
 

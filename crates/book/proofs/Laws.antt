@@ -1,21 +1,22 @@
 -- Laws for the decoders of a book. A mask of which nothing is left when n bits are shifted out is below 2 ^ n. A step limit that a test
 -- refuses is out of its range. Where rule k stands, its bytes stand.
 use Rattle.std.specs.Prelude.{if◌then◌else◌, Option, Some, None}
-use mathlib.Core.Logic.{◌⊎◌, inl, inr}
 use mathlib.Core.Path.{◌≡◌, refl, sym, ◌∙◌}
-use mathlib.Core.Bool.{Bool, true, false}
+use mathlib.Core.Bool.{Bool, true, false, ◌&&◌}
 use mathlib.Core.List.{List, []}
-use Prim.Native.Nat.{ℕ, ◌-◌, ◌/◌, ◌^◌, ◌≤◌, ◌<◌}
+use Prim.Native.Nat.{ℕ, ◌+◌, ◌-◌, ◌/◌, ◌^◌, ◌≤◌, ◌<◌}
 use native.Mathlib.Nat.{div-eq_of_lt, div-lt_iff_lt-mul, one-le-pow}
 use native.Mathlib.Omega.{arith}
-use borrow.Author.Tests.{ltb-true, ltb-false, eq-eqb, ne_eqb}
-use lib.Dec.{eqb, ltb}
+use borrow.Author.Tests.{ltb-true, ltb-false, lt-leb, eq-eqb, ne_eqb}
+use lib.Dec.{eqb, leb, ltb}
 use lib.ListN.{length, take, drop}
-use Rattle.meaning.specs.Reading.{Read, bad, got}
-use Rattle.meaning.specs.ByteLayouts.{rule}
-use Rattle.meaning.specs.EntryPoints.{bytes_read, rule_after}
+use Rattle.meaning.specs.Base.{within}
+use Rattle.meaning.specs.Reading.{Read, bad, got, byte_at, byte_within, number16, many}
+use Rattle.meaning.specs.ByteLayouts.{rule, bytes2}
+use Rattle.meaning.specs.EntryPoints.{first_rule, bytes_read, rule_after}
+use Rattle.meaning.proofs.Parsing.{same_place, if-got, number16-reads}
 use Rattle.words.proofs.Laws.{split}
-use Rattle.book.specs.Books.{span_to, span_after}
+use Rattle.book.specs.Books.{span_to, span_after, rule_span}
 
 -- ---- Masks
 
@@ -28,25 +29,46 @@ shifted-out m n =
     let large = ltb-false m (2 ^ n) e in
     ne_eqb (m / 2 ^ n) 0 (λ q. omega (arith, (div-lt_iff_lt-mul {k = 2 ^ n} {x = m} {y = 1} some).0 (omega arith))) ∙ sym e)
 
+-- ---- A number outside a range, and where bytes and numbers end
+
+module _ {lo n : ℕ} (hi : ℕ) where
+  pub below : n < lo → within lo hi n ≡ false
+  below h = rw (lt-leb lo n h)
+
+module _ {hi n : ℕ} (lo : ℕ) where
+  pub above : hi < n → within lo hi n ≡ false
+  above h = rw (lt-leb n hi h) (none-left (leb lo n))
+    where
+      none-left : (t : Bool) → (t && false) ≡ false
+      none-left true = refl
+      none-left false = refl
+
+module _ (s : List ℕ) (at : ℕ) {n next : ℕ} where
+  pub byte-after : (lo hi : ℕ) → byte_within lo hi s at ≡ got n next → next ≡ at + 1
+  unfolding byte_within
+  byte-after lo hi e = sym (same_place (if-got (within lo hi (byte_at s at)) (got (byte_at s at) (at + 1)) e).1)
+
+  pub number16-after : number16 s at ≡ got n next → next ≡ at + 2
+  unfolding bytes2
+  number16-after e = (number16-reads.told e).ends
+
 -- ---- The bytes of a rule, by where it stands
 
-module _ {A : Type 0} (s : List ℕ) where
-  to-bytes : {r : Read A} (start : ℕ) {a b : ℕ} → span_to start r ≡ Some (a, b) → bytes_read s start r ≡ take (b - a) (drop a s)
-  unfolding span_to bytes_read
-  to-bytes {r = bad} start e = cc
-  to-bytes {r = got x end} start {a} {b} e = let from : start ≡ a = cc in let to : end ≡ b = cc in rw (from, to)
+-- the bytes of a span, if there is one
+unfoldable pub bytes_in : List ℕ → Option (ℕ × ℕ) → List ℕ
+bytes_in s None = []
+bytes_in s (Some (start, end)) = take (end - start) (drop start s)
 
-  to-no-bytes : {r : Read A} (start : ℕ) → span_to start r ≡ None → bytes_read s start r ≡ []
-  unfolding span_to bytes_read
-  to-no-bytes {r = bad} start e = refl
-  to-no-bytes {r = got x end} start e = cc
+to-bytes : {A : Type 0} (s : List ℕ) (start : ℕ) (r : Read A) → bytes_in s (span_to start r) ≡ bytes_read s start r
+unfolding bytes_in span_to bytes_read
+to-bytes s start bad = refl
+to-bytes s start (got x end) = refl
 
-  pub span-bytes : (n : ℕ) {r : Read A} {a b : ℕ} → span_after s n r ≡ Some (a, b) → rule_after s n r ≡ take (b - a) (drop a s)
-  unfolding span_after rule_after
-  span-bytes n {r = bad} e = cc
-  span-bytes n {r = got x start} e = to-bytes {r = rule n s start} start e
+after-bytes : {A : Type 0} (s : List ℕ) (n : ℕ) (r : Read A) → bytes_in s (span_after s n r) ≡ rule_after s n r
+unfolding bytes_in span_after rule_after
+after-bytes s n bad = refl
+after-bytes s n (got x start) = to-bytes s start (rule n s start)
 
-  pub no-span-bytes : (n : ℕ) {r : Read A} → span_after s n r ≡ None → rule_after s n r ≡ []
-  unfolding span_after rule_after
-  no-span-bytes n {r = bad} e = refl
-  no-span-bytes n {r = got x start} e = to-no-bytes {r = rule n s start} start e
+pub rule-bytes : (s : List ℕ) (n k : ℕ) → bytes_in s (rule_span s n k) ≡ (if ltb k n then rule_after s n (many k (rule n) s first_rule) else [])
+unfolding bytes_in
+rule-bytes s n k = split (ltb k n) (λ e. rw e (after-bytes s n (many k (rule n) s first_rule))) (λ e. rw e)
