@@ -1,15 +1,15 @@
--- Laws for the decoders of a book. A mask of which nothing is left when n bits are shifted out is below 2 ^ n. A step limit that a test
--- refuses is out of its range. Where rule k stands, its bytes stand.
+-- Laws for the decoders of a book. A mask of which nothing is left when n bits are shifted out is below 2 ^ n. A number below a range or
+-- above it is not in it. What was read of a book's first fields tells where its rules begin, and the span of a rule its bytes.
 use Rattle.std.specs.Prelude.{if◌then◌else◌, Option, Some, None}
 use mathlib.Core.Path.{◌≡◌, refl, sym, ◌∙◌}
 use mathlib.Core.Bool.{Bool, true, false, ◌&&◌}
 use mathlib.Core.List.{List, []}
-use Prim.Native.Nat.{ℕ, ◌+◌, ◌-◌, ◌/◌, ◌^◌, ◌≤◌, ◌<◌}
+use Prim.Native.Nat.{ℕ, ◌+◌, ◌-◌, ◌/◌, ◌^◌, ◌<◌}
 use native.Mathlib.Nat.{div-eq_of_lt, div-lt_iff_lt-mul, one-le-pow}
 use native.Mathlib.Omega.{arith}
 use borrow.Author.Tests.{ltb-true, ltb-false, lt-leb, eq-eqb, ne_eqb}
 use lib.Dec.{eqb, leb, ltb}
-use lib.ListN.{length, take, drop}
+use lib.ListN.{take, drop}
 use Rattle.meaning.specs.Base.{within}
 use Rattle.meaning.specs.Reading.{Read, bad, got, byte_at, byte_within, number16, many}
 use Rattle.meaning.specs.ByteLayouts.{rule, bytes2}
@@ -69,6 +69,7 @@ unfolding bytes_in span_after rule_after
 after-bytes s n bad = refl
 after-bytes s n (got x start) = to-bytes s start (rule n s start)
 
-pub rule-bytes : (s : List ℕ) (n k : ℕ) → bytes_in s (rule_span s n k) ≡ (if ltb k n then rule_after s n (many k (rule n) s first_rule) else [])
+pub rule-bytes : (s : List ℕ) (n k : ℕ)
+    → bytes_in s (rule_span s n k) ≡ (if ltb k n then rule_after s n (many k (rule n) s first_rule) else [])
 unfolding bytes_in
 rule-bytes s n k = split (ltb k n) (λ e. rw e (after-bytes s n (many k (rule n) s first_rule))) (λ e. rw e)

@@ -1,9 +1,7 @@
 -- `book::head_at` meets its contract: it reads the fields before the condition as the layout does. Where the last of them ends is inside the
 -- slice.
-use lib.ListN.{length}
 use mathlib.Core.Path.{◌≡◌}
 use native.Mathlib.Omega.{arith}
-use Prim.Native.Nat.{◌≤◌}
 use Rattle.meaning.specs.ByteLayouts.{rule, table}
 use Rattle.meaning.specs.Reading.{got, number16}
 use Rattle.words.specs.Words.{read_as}
