@@ -2,7 +2,7 @@
 -- above it is not in it. What was read of a book's first fields tells where its rules begin, and the span of a rule its bytes.
 use Rattle.std.specs.Prelude.{if◌then◌else◌, Option, Some, None}
 use mathlib.Core.Path.{◌≡◌, refl, sym, ◌∙◌}
-use mathlib.Core.Bool.{Bool, true, false, ◌&&◌}
+use mathlib.Core.Bool.{false, and-false}
 use mathlib.Core.List.{List, []}
 use Prim.Native.Nat.{ℕ, ◌+◌, ◌-◌, ◌/◌, ◌^◌, ◌<◌}
 use native.Mathlib.Nat.{div-eq_of_lt, div-lt_iff_lt-mul, one-le-pow}
@@ -31,17 +31,11 @@ shifted-out m n =
 
 -- ---- A number outside a range, and where bytes and numbers end
 
-module _ {lo n : ℕ} (hi : ℕ) where
-  pub below : n < lo → within lo hi n ≡ false
-  below h = rw (lt-leb lo n h)
+pub below : (lo hi n : ℕ) → n < lo → within lo hi n ≡ false
+below lo hi n h = rw (lt-leb lo n h)
 
-module _ {hi n : ℕ} (lo : ℕ) where
-  pub above : hi < n → within lo hi n ≡ false
-  above h = rw (lt-leb n hi h) (none-left (leb lo n))
-    where
-      none-left : (t : Bool) → (t && false) ≡ false
-      none-left true = refl
-      none-left false = refl
+pub above : (lo hi n : ℕ) → hi < n → within lo hi n ≡ false
+above lo hi n h = rw (lt-leb n hi h) (and-false (leb lo n))
 
 module _ (s : List ℕ) (at : ℕ) {n next : ℕ} where
   pub byte-after : (lo hi : ℕ) → byte_within lo hi s at ≡ got n next → next ≡ at + 1

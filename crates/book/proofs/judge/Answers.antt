@@ -37,8 +37,9 @@ unfolding book_or option_as book read_as
 returns-then-limit-lt1-clause-result_value c =
     let bytes : Bytes c.args.s.now = λ i. (c.type_inv.s i).fits in
     let framed = sym c.well_framed.ensures ∙ c.if-not-well_framed.false in
-    let wrong : within 1 1000 c.in_ok-limit.limit ≡ false =
-    elim c.then-limit-lt1.either [ inl low ↦ below 1000 low | inr high ↦ above 1 high.1 ]
+    let limit = c.in_ok-limit.limit in
+    let wrong : within 1 1000 limit ≡ false =
+    elim c.then-limit-lt1.either [ inl low ↦ below 1 1000 limit low | inr high ↦ above 1 1000 limit high.1 ]
     in sym (fields-refused _ c.args.s.now bytes framed (rw (← c.number16.ensures, c.in_ok-limit.was, wrong)))
 
 pub returns-in_err-count-clause-result_value : goal.returns-in_err-count-clause-result_value
