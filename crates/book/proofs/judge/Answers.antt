@@ -1,7 +1,7 @@
 -- `book::judge` meets its contract. In a right frame a step limit and a rule count are read where the layout reads them, and as many rules,
 -- which must end where the slice ends.
 use lib.ListN.{length}
-use mathlib.Core.Bool.{true, false}
+use mathlib.Core.Bool.{false}
 use mathlib.Core.Logic.{inl, inr}
 use mathlib.Core.Path.{◌≡◌, sym, ◌∙◌}
 use native.Mathlib.Omega.{arith}
