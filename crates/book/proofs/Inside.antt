@@ -1,6 +1,6 @@
 -- What is read of a slice stands in it: a layout ends no earlier than it begins, and inside the slice. It is so of one byte, and of what
 -- is read on from there; so it is of every layout of a rule.
-use Rattle.std.specs.Prelude.{if◌then◌else◌}
+use Rattle.std.specs.Prelude.{if◌then◌else◌, Option, Some}
 use mathlib.Core.Path.{◌≡◌, sym, ap, ◌∙◌}
 use mathlib.Core.Bool.{Bool, true, false, ◌&&◌}
 use mathlib.Core.List.{List}
@@ -17,10 +17,9 @@ use Rattle.meaning.specs.ByteLayouts as ByteLayouts
 use Rattle.meaning.specs.ByteLayouts.{value, table, column, mask, columns, pair, expression_of, expression, rule}
 use Rattle.meaning.proofs.Parsing.{inside}
 use Rattle.words.proofs.Laws.{split, byte-within-yes, byte-within-low, byte-within-high}
+use Rattle.words.specs.Words.{read_as}
 use Rattle.book.specs.Books.{rule_or}
 use Rattle.book.specs.declared.Rule.{Rule}
-use Rattle.book.specs.declared.RuleRead.{RuleRead}
-use Rattle.book.specs.declared.RuleRead.TheVariants.{Is}
 
 -- what was read from a place on ends there or after it, and inside the slice
 pub data Inside {A : Type 0} (s : List ℕ) (at : ℕ) : Read A → Type 0 where
@@ -81,7 +80,7 @@ module _ (s : List ℕ) where
   unfolding byte
   byte_inside at = byte-within-inside 0 255 at (omega arith)
 
-  number16-inside : (at : ℕ) → Inside s at (number16 s at)
+  pub number16-inside : (at : ℕ) → Inside s at (number16 s at)
   unfolding number16
   number16-inside at = on _ (byte_inside at) (λ high k _. on _ (byte_inside k) (λ low e l. here l))
 
@@ -244,7 +243,7 @@ rule-inside n s at =
     on _ (actions-inside s g k7) (λ acts e m. here m))))))))
 
 -- by an answer of `rule_at`
-pub rule-ends : (n : ℕ) (s : List ℕ) (at : ℕ) {r : RuleRead} {rule : Rule} {next : ℕ} → rule_or s r ≡ ByteLayouts.rule n s at
-    → r ≡ Is rule next → (at ≤ next) × (next ≤ length s)
-unfolding rule_or
-rule-ends n s at e is = inside-ends (rule-inside n s at) (sym e ∙ ap (λ (read : RuleRead). rule_or s read) is)
+pub rule-ends : (n : ℕ) (s : List ℕ) (at : ℕ) {r : Option (Rule × ℕ)} {rule : Rule} {next : ℕ} → rule_or s r ≡ ByteLayouts.rule n s at
+    → r ≡ Some (rule, next) → (at ≤ next) × (next ≤ length s)
+unfolding rule_or read_as
+rule-ends n s at e is = inside-ends (rule-inside n s at) (sym e ∙ ap (λ (read : Option (Rule × ℕ)). rule_or s read) is)

@@ -1,8 +1,7 @@
 -- What the decoders of actions, rules and books answer.
-use Rattle.std.specs.Prelude.{◌≡◌, Bool, List, [], ℕ, ◌≤◌, eqb, ltb, length, if◌then◌else◌, Option, Some, None}
+use Rattle.std.specs.Prelude.{◌≡◌, List, [], ℕ, ◌≤◌, ltb, length, if◌then◌else◌, Option, Some, None}
 use Rattle.std.proofs.Math.Option.{Option as Maybe, none, some}
 use Rattle.std.specs.Int.Count.{ones}
-use Rattle.meaning.specs.Base.{bit, within}
 use Rattle.meaning.specs.Reading.{Read, bad, got, on_from, many, read_all}
 use Rattle.meaning.specs.Covers as Covers
 use Rattle.meaning.specs.ByteLayouts as ByteLayouts
@@ -46,10 +45,6 @@ actions_meant s triggers a = readable a.count (ByteLayouts.action triggers) s a.
 
 unfoldable pub actions_or : List ℕ → ℕ → Option (Actions × ℕ) → Read (List Covers.Action)
 actions_or s triggers = read_as (actions_meant s triggers)
-
--- a mask 1..15 if bit 2 of the triggers is set, else 0
-unfoldable pub columns_fit : ℕ → ℕ → Bool
-columns_fit triggers columns = if bit triggers 2 then within 1 15 columns else eqb columns 0
 
 -- a rule from its head, its condition and its actions
 unfoldable pub rule_of : Head → Maybe Covers.Query → List Covers.Action → Covers.Rule

@@ -7,7 +7,8 @@ ghost use Rattle.meaning.specs.Covers as Covers;
 ghost use Rattle.meaning.specs.ByteLayouts as ByteLayouts;
 ghost use Rattle.meaning.specs.ByteLayouts.{rule};
 ghost use Rattle.meaning.specs.EntryPoints.{first_rule, rule_after};
-ghost use Rattle.book.specs.Books.{action_or, actions_or, condition_or, columns_fit, head_then, head_end, rule_or, book_or, Told, rule_span, SpanInside};
+ghost use Rattle.words.specs.Words.{read};
+ghost use Rattle.book.specs.Books.{action_or, actions_or, condition_or, head_then, head_end, rule_or, book_or, Told, rule_span, SpanInside};
 
 use terms::{Expressions, Query, Terms};
 use words::Layout;
@@ -180,17 +181,15 @@ fn actions_at(s: &[u8], triggers: usize, at: usize) -> Option<(Actions, usize)>
     Some((Actions { count, first }, next))
 }
 
-// Whether a column mask fits the triggers: 1..15 if bit 2 is set, else 0.
-fn columns_fit(triggers: usize, columns: usize) -> bool
-    ensures { result ≡ columns_fit triggers columns }
+// A column mask, as the triggers ask for: 1..15 if bit 2 is set, else 0.
+fn columns_at(s: &[u8], triggers: usize, at: usize) -> Option<(usize, usize)>
+    ensures { read result ≡ ByteLayouts.columns triggers s.now at }
 {
     if words::has_bit(triggers, 2) {
-        if columns < 1 {
-            return false;
-        }
-        return columns < 16;
+        words::byte_within(s, at, 1, 15)
+    } else {
+        words::byte_within(s, at, 0, 0)
     }
-    columns == 0
 }
 
 // Whether a mask names only rules of a book of n.
@@ -210,10 +209,7 @@ fn head_at(s: &[u8], n: usize, at: usize) -> Option<(Head, usize)>
     let (active, after_active) = words::byte_within(s, at, 0, 1)?;
     let (table, after_table) = words::byte_within(s, after_active, 0, 3)?;
     let (triggers, after_triggers) = words::byte_within(s, after_table, 1, 7)?;
-    let (columns, after_columns) = words::byte_within(s, after_triggers, 0, 255)?;
-    if !columns_fit(triggers, columns) {
-        return None;
-    }
+    let (columns, after_columns) = columns_at(s, triggers, after_triggers)?;
     let (precedes, next) = words::number16(s, after_columns)?;
     if !names_rules(precedes, n) {
         return None;
@@ -274,14 +270,12 @@ pub fn judge(s: &[u8]) -> Option<Frame>
         return None;
     }
     let (limit, after) = words::number16(s, fields::FIELDS)?;
-    if limit < 1 {
+    if limit < 1 || LIMIT < limit {
         return None;
     }
-    if LIMIT < limit {
-        return None;
-    }
-    let (count, first) = words::byte_within(s, after, 0, 16)?;
-    if words::many_end(&BookRules { n: count }, s, first, count)? != s.len() {
+    let (count, first) = words::byte_within(s, after, 0, RULES as u8)?;
+    let end = words::many_end(&BookRules { n: count }, s, first, count)?;
+    if end != s.len() {
         return None;
     }
     Some(Frame { limit, count })
@@ -297,7 +291,7 @@ pub fn rule_span(s: &[u8], n: usize, k: usize) -> Option<(usize, usize)>
         return None;
     }
     let start = words::many_end(&BookRules { n }, s, FIRST, k)?;
-    let (_rule, end) = rule_at(s, n, start)?;
+    let (_, end) = rule_at(s, n, start)?;
     Some((start, end))
 }
 

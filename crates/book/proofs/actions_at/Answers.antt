@@ -1,33 +1,26 @@
 -- `book::actions_at` meets its contract: a number of actions from 1 to 4, and the actions.
-use native.Mathlib.Omega.{arith}
-use borrow.Author.Rules.{rules}
 use mathlib.Core.Path.{sym, ◌∙◌}
-use Prim.Native.Nat.{◌+◌}
-use Rattle.meaning.specs.ByteLayouts as ByteLayouts
+use Rattle.meaning.specs.ByteLayouts.{action, actions}
 use Rattle.meaning.specs.Reading.{many}
+use Rattle.words.specs.Words.{read_as}
 use Rattle.words.proofs.Laws.{short-bad, ends-readable}
-use Rattle.terms.proofs.Laws.{looked-within, looked-below, looked-above}
 use Rattle.book.specs.Books.{actions_or, actions_meant}
 use Rattle.book.proofs.actions_at.Goals as goal
 
-pub returns-in-At : goal.returns-in-At
-unfolding actions_or actions_meant ByteLayouts.actions
-returns-in-At c =
-    let read = sym c.actions_end.ensures ∙ c.in-At.is in
-    rw (looked-within c.byte-count.ensures 1 4 (search rules) (search rules))
-    (sym (ends-readable (ByteLayouts.action c.args.triggers) c.byte-count.result c.args.s.now (c.args.at + 1) c.in-At.next read))
+pub returns-in_err-count : goal.returns-in_err-count
+unfolding actions_or actions read_as
+returns-in_err-count c = rw c.from_residual.ensures (rw (← c.byte_within.ensures.reads, c.in_err-count.was))
 
-pub returns-in-Short : goal.returns-in-Short
-unfolding actions_or ByteLayouts.actions
-returns-in-Short c =
-    let actions = many c.byte-count.result (ByteLayouts.action c.args.triggers) c.args.s.now (c.args.at + 1) in
-    rw (looked-within c.byte-count.ensures 1 4 (search rules) (search rules))
-    (sym (short-bad actions (sym c.actions_end.ensures ∙ c.in-Short.is)))
+pub returns-in_err-next : goal.returns-in_err-next
+unfolding actions_or actions read_as
+returns-in_err-next c =
+    let all = many c.in_ok-count.count (action c.args.triggers) c.args.s.now c.in_ok-count.first in
+    let short = short-bad all (sym c.many_end.ensures ∙ c.in_err-next.was) in
+    rw c.from_residual-in_err-next.ensures (rw (← c.byte_within.ensures.reads, c.in_ok-count.was, short))
 
-pub returns-in_default : goal.returns-in_default
-unfolding actions_or ByteLayouts.actions
-returns-in_default c = rw (looked-below c.byte-count.ensures 1 4 (omega arith))
-
-pub returns-in_default-2 : goal.returns-in_default-2
-unfolding actions_or ByteLayouts.actions
-returns-in_default-2 c = rw (looked-above c.byte-count.ensures 1 4 (omega arith))
+pub returns : goal.returns
+unfolding actions_or actions_meant actions read_as
+returns c =
+    let end = sym c.many_end.ensures ∙ c.in_ok-next.was in
+    let read = ends-readable (action c.args.triggers) c.in_ok-count.count c.args.s.now c.in_ok-count.first c.in_ok-next.next end in
+    rw (← c.byte_within.ensures.reads, c.in_ok-count.was, read)

@@ -1,98 +1,80 @@
--- `book::head_at` meets its contract: each of its tests decides the rule at this place as the layout does, field by field.
-use borrow.Author.Rules.{rules}
-use mathlib.Core.Logic.{⊎_elim}
+-- `book::head_at` meets its contract: it reads the fields before the condition as the layout does. Where the last of them ends is inside the
+-- slice.
 use mathlib.Core.Path.{◌≡◌}
 use native.Mathlib.Omega.{arith}
-use Prim.Native.Nat.{◌+◌}
-use Rattle.meaning.specs.ByteLayouts.{rule}
-use Rattle.meaning.specs.Reading.{bad, byte_within}
-use Rattle.words.specs.Words.{Bytes}
-use Rattle.words.proofs.Laws.{number16-read, number16-short}
-use Rattle.fields.proofs.Laws.{passed, failed, stands, stands-not}
-use Rattle.terms.proofs.Laws.{looked-within, looked-below, looked-above}
+use Rattle.meaning.specs.ByteLayouts.{rule, table}
+use Rattle.meaning.specs.Reading.{got, number16}
+use Rattle.words.specs.Words.{read_as}
 use Rattle.book.specs.Books.{head_then, head_end, rule_of}
-use Rattle.book.proofs.Laws.{table-looked, table-wrong, columns-admitted, columns-refused}
+use Rattle.book.proofs.Inside.{number16-inside, inside-ends}
 use Rattle.book.proofs.head_at.Goals as goal
 
-pub returns-then-active-gt1 : goal.returns-then-active-gt1
-unfolding head_then head_end rule
-returns-then-active-gt1 c = record {
-  result_value = rw (looked-above c.byte-active.ensures 0 1 c.if-active-gt1.true);
-  result_in_bounds = omega arith;
-}
-
-pub returns-then-table-gt3 : goal.returns-then-table-gt3
-unfolding head_then head_end rule
-returns-then-table-gt3 c = record {
-  result_value = rw (looked-within c.byte-active.ensures 0 1 (search rules) c.if-active-gt1.false)
-      (rw (table-wrong c.byte-table.ensures c.if-table-gt3.true));
-  result_in_bounds = omega arith;
-}
-
-pub returns-then-triggers-lt1 : goal.returns-then-triggers-lt1
-unfolding head_then head_end rule
-returns-then-triggers-lt1 c =
-    let wrong : byte_within 1 7 c.args.s.now (c.args.at + 1 + 1) ≡ bad =
-    ⊎_elim (λ low. looked-below c.byte-triggers.ensures 1 7 low)
-    (λ high. looked-above c.byte-triggers.ensures 1 7 high.1)
-    c.then-triggers-lt1.either
-    in record {
-      result_value = rw (looked-within c.byte-active.ensures 0 1 (search rules) c.if-active-gt1.false)
-          (rw (table-looked c.byte-table.ensures c.if-table-gt3.false, wrong));
+pub returns-in_err-active : goal.returns-in_err-active
+unfolding head_then head_end rule read_as
+returns-in_err-active c =
+    rw c.from_residual.ensures
+    (record {
+      result_value = rw (← c.byte_within.ensures.reads, c.in_err-active.was);
       result_in_bounds = omega arith;
-    }
+    })
 
-pub returns-then-not-columns_fit : goal.returns-then-not-columns_fit
-unfolding head_then head_end rule
-returns-then-not-columns_fit c = record {
-  result_value = rw (looked-within c.byte-active.ensures 0 1 (search rules) c.if-active-gt1.false)
-      (rw (table-looked c.byte-table.ensures c.if-table-gt3.false)
-      (rw (looked-within c.byte-triggers.ensures 1 7 c.if-triggers-lt1.false c.if-triggers-gt7.false)
-      (rw (columns-refused c.byte-triggers.result _ c.columns_fit.ensures c.byte-columns.ensures c.if-not-columns_fit.true))));
-  result_in_bounds = omega arith;
-}
-
-pub returns-then-not-has : goal.returns-then-not-has
-unfolding head_then head_end rule
-returns-then-not-has c =
-    let bytes : Bytes c.args.s.now = λ i. (c.type_inv.s i).fits in
-    let gone = stands-not c.args.s.now (c.args.at + 1 + 1 + 1 + 1 + 2) c.has.ensures c.if-not-has.true in record {
-      result_value = rw (looked-within c.byte-active.ensures 0 1 (search rules) c.if-active-gt1.false)
-          (rw (table-looked c.byte-table.ensures c.if-table-gt3.false)
-          (rw (looked-within c.byte-triggers.ensures 1 7 c.if-triggers-lt1.false c.if-triggers-gt7.false)
-          (rw (columns-admitted c.byte-triggers.result _ c.columns_fit.ensures c.byte-columns.ensures c.if-not-columns_fit.false)
-          (rw (number16-short c.args.s.now bytes (c.args.at + 1 + 1 + 1 + 1) gone)))));
+pub returns-in_err-table : goal.returns-in_err-table
+unfolding head_then head_end rule table read_as
+returns-in_err-table c =
+    rw c.from_residual-in_err-table.ensures
+    (record {
+      result_value = rw (← c.byte_within.ensures.reads, c.in_ok-active.was, ← c.byte_within-2.ensures.reads, c.in_err-table.was);
       result_in_bounds = omega arith;
-    }
+    })
 
-pub word16-precedes-requires : goal.word16-precedes-requires
-word16-precedes-requires c =
-    stands c.args.s.now (c.args.at + 1 + 1 + 1 + 1 + 2) c.has.ensures c.if-not-has.false
+pub returns-in_err-triggers : goal.returns-in_err-triggers
+unfolding head_then head_end rule table read_as
+returns-in_err-triggers c =
+    rw c.from_residual-in_err-triggers.ensures
+    (record {
+      result_value = rw (← c.byte_within.ensures.reads, c.in_ok-active.was, ← c.byte_within-2.ensures.reads, c.in_ok-table.was)
+          (rw (← c.byte_within-3.ensures.reads, c.in_err-triggers.was));
+      result_in_bounds = omega arith;
+    })
+
+pub returns-in_err-columns : goal.returns-in_err-columns
+unfolding head_then head_end rule table read_as
+returns-in_err-columns c =
+    rw c.from_residual-in_err-columns.ensures
+    (record {
+      result_value = rw (← c.byte_within.ensures.reads, c.in_ok-active.was, ← c.byte_within-2.ensures.reads, c.in_ok-table.was)
+          (rw (← c.byte_within-3.ensures.reads, c.in_ok-triggers.was, ← c.columns_at.ensures, c.in_err-columns.was));
+      result_in_bounds = omega arith;
+    })
+
+pub returns-in_err-precedes : goal.returns-in_err-precedes
+unfolding head_then head_end rule table read_as
+returns-in_err-precedes c =
+    rw c.from_residual-in_err-precedes.ensures
+    (record {
+      result_value = rw (← c.byte_within.ensures.reads, c.in_ok-active.was, ← c.byte_within-2.ensures.reads, c.in_ok-table.was)
+          (rw (← c.byte_within-3.ensures.reads, c.in_ok-triggers.was, ← c.columns_at.ensures, c.in_ok-columns.was)
+          (rw (← c.number16.ensures, c.in_err-precedes.was)));
+      result_in_bounds = omega arith;
+    })
 
 pub returns-then-not-names_rules : goal.returns-then-not-names_rules
-unfolding head_then head_end rule
-returns-then-not-names_rules c =
-    let bytes : Bytes c.args.s.now = λ i. (c.type_inv.s i).fits in
-    let here = stands c.args.s.now (c.args.at + 1 + 1 + 1 + 1 + 2) c.has.ensures c.if-not-has.false in record {
-      result_value = rw (looked-within c.byte-active.ensures 0 1 (search rules) c.if-active-gt1.false)
-          (rw (table-looked c.byte-table.ensures c.if-table-gt3.false)
-          (rw (looked-within c.byte-triggers.ensures 1 7 c.if-triggers-lt1.false c.if-triggers-gt7.false)
-          (rw (columns-admitted c.byte-triggers.result _ c.columns_fit.ensures c.byte-columns.ensures c.if-not-columns_fit.false)
-          (rw (number16-read c.args.s.now bytes (c.args.at + 1 + 1 + 1 + 1) here, ← c.word16-precedes.ensures.0)
-          (rw (failed c.names_rules.ensures c.if-not-names_rules.true))))));
-      result_in_bounds = omega arith;
-    }
+unfolding head_then head_end rule table read_as
+returns-then-not-names_rules c = record {
+  result_value = rw (← c.byte_within.ensures.reads, c.in_ok-active.was, ← c.byte_within-2.ensures.reads, c.in_ok-table.was)
+      (rw (← c.byte_within-3.ensures.reads, c.in_ok-triggers.was, ← c.columns_at.ensures, c.in_ok-columns.was)
+      (rw (← c.number16.ensures, c.in_ok-precedes.was, ← c.names_rules.ensures, c.if-not-names_rules.true)));
+  result_in_bounds = omega arith;
+}
 
 pub returns : goal.returns
-unfolding head_then head_end rule_of rule
+unfolding head_then head_end rule_of rule table read_as
 returns c =
-    let bytes : Bytes c.args.s.now = λ i. (c.type_inv.s i).fits in
-    let here = stands c.args.s.now (c.args.at + 1 + 1 + 1 + 1 + 2) c.has.ensures c.if-not-has.false in record {
-      result_value = rw (looked-within c.byte-active.ensures 0 1 (search rules) c.if-active-gt1.false)
-          (rw (table-looked c.byte-table.ensures c.if-table-gt3.false)
-          (rw (looked-within c.byte-triggers.ensures 1 7 c.if-triggers-lt1.false c.if-triggers-gt7.false)
-          (rw (columns-admitted c.byte-triggers.result _ c.columns_fit.ensures c.byte-columns.ensures c.if-not-columns_fit.false)
-          (rw (number16-read c.args.s.now bytes (c.args.at + 1 + 1 + 1 + 1) here, ← c.word16-precedes.ensures.0)
-          (rw (passed c.names_rules.ensures c.if-not-names_rules.false))))));
-      result_in_bounds = omega arith;
+    let read : number16 c.args.s.now c.in_ok-columns.after_columns ≡ got c.in_ok-precedes.precedes c.in_ok-precedes.next =
+    rw (← c.number16.ensures, c.in_ok-precedes.was)
+    in record {
+      result_value = rw (← c.byte_within.ensures.reads, c.in_ok-active.was, ← c.byte_within-2.ensures.reads, c.in_ok-table.was)
+          (rw (← c.byte_within-3.ensures.reads, c.in_ok-triggers.was, ← c.columns_at.ensures, c.in_ok-columns.was)
+          (rw (read, ← c.names_rules.ensures, c.if-not-names_rules.false)));
+      result_in_bounds = (inside-ends (number16-inside c.args.s.now c.in_ok-columns.after_columns) read).1;
     }

@@ -1,35 +1,33 @@
 -- `book::insert_from_query` meets its contract: a table 0..3, a query, and four expressions after it.
 use mathlib.Core.Path.{sym, ◌∙◌}
-use Rattle.meaning.specs.ByteLayouts.{insert_from_query, expression}
+use Rattle.meaning.specs.ByteLayouts.{insert_from_query, table, expression}
 use Rattle.meaning.specs.Reading.{many}
+use Rattle.words.specs.Words.{read_as}
 use Rattle.words.proofs.Laws.{short-bad, ends-readable}
 use Rattle.terms.specs.Terms.{query_or}
 use Rattle.book.specs.Books.{action_or, action_meant, expressions_at}
-use Rattle.book.proofs.Laws.{table-looked, table-wrong}
 use Rattle.book.proofs.insert_from_query.Goals as goal
 
-pub returns-then-table-gt3 : goal.returns-then-table-gt3
-unfolding action_or insert_from_query
-returns-then-table-gt3 c = rw (table-wrong c.byte-table.ensures c.if-table-gt3.true)
+pub returns-in_err-table : goal.returns-in_err-table
+unfolding action_or insert_from_query table read_as
+returns-in_err-table c = rw c.from_residual.ensures (rw (← c.byte_within.ensures.reads, c.in_err-table.was))
 
-pub returns-in-At : goal.returns-in-At
-unfolding action_or action_meant expressions_at insert_from_query query_or
-returns-in-At c =
-    let read = sym c.expressions_end.ensures ∙ c.in-At.is in
-    rw (table-looked c.byte-table.ensures c.if-table-gt3.false)
-    (rw (← c.query_at.ensures, c.in-Is.is)
-    (rw (ends-readable expression 4 c.args.s.now c.in-Is.expressions c.in-At.next read)))
+pub returns-in_err-query : goal.returns-in_err-query
+unfolding action_or insert_from_query table query_or read_as
+returns-in_err-query c =
+    rw c.from_residual-in_err-query.ensures
+    (rw (← c.byte_within.ensures.reads, c.in_ok-table.was, ← c.query_at.ensures, c.in_err-query.was))
 
-pub returns-in-Short : goal.returns-in-Short
-unfolding action_or insert_from_query query_or
-returns-in-Short c =
-    let short = sym c.expressions_end.ensures ∙ c.in-Short.is in
-    rw (table-looked c.byte-table.ensures c.if-table-gt3.false)
-    (rw (← c.query_at.ensures, c.in-Is.is)
-    (rw (short-bad (many 4 expression c.args.s.now c.in-Is.expressions) short)))
+pub returns-in_err-next : goal.returns-in_err-next
+unfolding action_or insert_from_query table query_or read_as
+returns-in_err-next c =
+    let short = short-bad (many 4 expression c.args.s.now c.in_ok-query.expressions) (sym c.many_end.ensures ∙ c.in_err-next.was) in
+    rw c.from_residual-in_err-next.ensures
+    (rw (← c.byte_within.ensures.reads, c.in_ok-table.was, ← c.query_at.ensures, c.in_ok-query.was, short))
 
-pub returns-in-Bad : goal.returns-in-Bad
-unfolding action_or insert_from_query query_or
-returns-in-Bad c =
-    rw (table-looked c.byte-table.ensures c.if-table-gt3.false)
-    (rw (← c.query_at.ensures, c.in-Bad.is))
+pub returns : goal.returns
+unfolding action_or action_meant expressions_at insert_from_query table query_or read_as
+returns c =
+    let first = c.in_ok-query.expressions in
+    let read = ends-readable expression 4 c.args.s.now first c.in_ok-next.next (sym c.many_end.ensures ∙ c.in_ok-next.was) in
+    rw (← c.byte_within.ensures.reads, c.in_ok-table.was, ← c.query_at.ensures, c.in_ok-query.was, read)

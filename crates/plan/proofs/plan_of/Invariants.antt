@@ -2,8 +2,5 @@
 use Rattle.plan.proofs.Planning.{Planning}
 use Rattle.plan.proofs.plan_of.Given as goal
 
-abbrev pub invariant-loop-left : goal.invariant-loop-left
-invariant-loop-left l = Planning l.s l.n l.starts l.tables l.triggers l.columns l.masks l.here l.left
-
-abbrev pub decreases-loop-left : goal.decreases-loop-left
-decreases-loop-left l = l.left
+abbrev pub invariant-loop-k : goal.invariant-loop-k
+invariant-loop-k l = Planning l.s l.n l.starts l.tables l.triggers l.columns l.masks l.here l.k
