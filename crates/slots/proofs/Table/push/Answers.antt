@@ -1,0 +1,24 @@
+-- `slots::Table::push` meets its contract: the slot is stored after the last, and then the size counts it.
+use native.Mathlib.Omega.{arith}
+use Rattle.slots.specs.Slots.{table_bytes}
+use Rattle.slots.proofs.Frames.{word-put}
+use Rattle.slots.proofs.Tables.{pushed}
+use Rattle.slots.proofs.Table.push.Goals as goal
+
+pub returns : goal.returns
+unfolding table_bytes
+returns g c =
+    pushed _ _ _ c.requires.stands c.size-end.ensures (omega arith) c.store.ensures
+    (word-put _ _ (omega arith) (omega arith) c.put_low32.ensures)
+
+pub size-end-requires : goal.size-end-requires
+unfolding table_bytes
+size-end-requires g c = omega arith
+
+pub store-requires : goal.store-requires
+unfolding table_bytes
+store-requires g c = omega arith
+
+pub put_low32-requires : goal.put_low32-requires
+unfolding table_bytes
+put_low32-requires g c = omega arith

@@ -1,0 +1,46 @@
+-- `slots::Table::push_place` meets its contract: the slot's words are copied after the last, with the place as the top byte of the second word,
+-- and then the size counts it.
+use Prim.Native.Nat.{◌%◌}
+use native.Mathlib.Omega.{arith}
+use Rattle.slots.specs.Slots.{table_bytes}
+use Rattle.slots.proofs.Frames.{word-put}
+use Rattle.slots.proofs.Tables.{marks-kind, pushed}
+use Rattle.slots.proofs.Table.push_place.Goals as goal
+
+pub copy-requires : goal.copy-requires
+unfolding table_bytes
+copy-requires g c = record {
+  from_in_bounds = omega arith;
+  to_in_bounds = omega arith;
+}
+
+pub returns : goal.returns
+unfolding table_bytes
+returns g c =
+    rw (← marks-kind c.args.room.now c.args.from.base c.args.i c.requires.i_bound c.low32.ensures (c.args.i % 256) (omega arith))
+    (pushed _ _ _ c.requires.stands c.size-end.ensures (omega arith) c.copy.ensures
+    (word-put _ _ (omega arith) (omega arith) c.put_low32.ensures))
+
+pub size-end-requires : goal.size-end-requires
+unfolding table_bytes
+size-end-requires g c = omega arith
+
+pub overflow_mul-at : goal.overflow_mul-at
+unfolding table_bytes
+overflow_mul-at g c = omega arith
+
+pub overflow_add-at-2 : goal.overflow_add-at-2
+unfolding table_bytes
+overflow_add-at-2 g c = omega arith
+
+pub overflow_add-at-3 : goal.overflow_add-at-3
+unfolding table_bytes
+overflow_add-at-3 g c = omega arith
+
+pub low32-requires : goal.low32-requires
+unfolding table_bytes
+low32-requires g c = omega arith
+
+pub put_low32-requires : goal.put_low32-requires
+unfolding table_bytes
+put_low32-requires g c = omega arith

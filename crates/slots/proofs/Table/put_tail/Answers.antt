@@ -1,0 +1,27 @@
+-- `slots::Table::put_tail` meets its contract: the other table's slots are copied after the first ones, and then the size counts both.
+use native.Mathlib.Omega.{arith}
+use Rattle.slots.specs.Slots.{table_bytes}
+use Rattle.slots.proofs.Frames.{word-put}
+use Rattle.slots.proofs.Tables.{tailed}
+use Rattle.slots.proofs.Table.put_tail.Goals as goal
+
+pub copy_bytes-requires : goal.copy_bytes-requires
+unfolding table_bytes
+copy_bytes-requires g c = record {
+  n_bound = omega arith;
+  n_in_bounds = omega arith;
+}
+
+pub returns : goal.returns
+unfolding table_bytes
+returns g c =
+    tailed _ _ _ _ _ c.requires.stands c.size-n.ensures (omega arith) (omega arith) c.copy_bytes.ensures
+    (word-put _ _ (omega arith) (omega arith) c.put_low32.ensures)
+
+pub size-n-requires : goal.size-n-requires
+unfolding table_bytes
+size-n-requires g c = omega arith
+
+pub put_low32-requires : goal.put_low32-requires
+unfolding table_bytes
+put_low32-requires g c = omega arith
