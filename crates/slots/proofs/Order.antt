@@ -1,6 +1,6 @@
 -- Tables by rising handle: where a handle is. Of lists alone; what stands before a place is below the handle, and what stands from it on is
 -- not.
-use Rattle.std.specs.Prelude.{if◌then◌else◌, Some, None}
+use Rattle.std.specs.Prelude.{if◌then◌else◌, Option, Some, None}
 use mathlib.Core.Path.{◌≡◌, refl, sym, ap, ◌∙◌, subst}
 use mathlib.Core.Bool.{Bool, true, false}
 use mathlib.Core.List.{List, [], ◌∷◌}
@@ -90,18 +90,22 @@ hit-at h i l e f = by (ltb i (length l)) refl (sym e ∙ f)
 
 -- ---- Where the slot of a handle is
 
--- the three answers, by the tests that give them
 pub find-yes : (l : List Slot) (h i : ℕ) → i ≡ place_in h l → i < length l → (get_or l i blank).handle ≡ h → Some i ≡ find_in h l
 unfolding find_in
 find-yes l h i q b e = sym (rw (← q, lt-ltb i (length l) b, eq-eqb (get_or l i blank).handle h e))
 
-pub find-other : (l : List Slot) (h i : ℕ) → i ≡ place_in h l → i < length l → ((get_or l i blank).handle ≡ h → ⊥) → None ≡ find_in h l
-unfolding find_in
-find-other l h i q b e = sym (rw (← q, lt-ltb i (length l) b, ne_eqb (get_or l i blank).handle h e))
+-- by whether it is at its place
+pub find-hit : (l : List Slot) (h i : ℕ) {t : Bool} → i ≡ place_in h l → t ≡ hit h i l → t ≡ true → Some i ≡ find_in h l
+find-hit l h i q e f = let here = hit-at h i l e f in find-yes l h i q here.0 here.1
 
-pub find-end : (l : List Slot) (h i : ℕ) → i ≡ place_in h l → length l ≤ i → None ≡ find_in h l
-unfolding find_in
-find-end l h i q b = sym (rw (← q, le-ltb i (length l) b))
+pub find-miss : (l : List Slot) (h i : ℕ) {t : Bool} → i ≡ place_in h l → t ≡ hit h i l → t ≡ false → None ≡ find_in h l
+unfolding hit find_in
+find-miss l h i q e f = rw (← q) (by (ltb i (length l)) (eqb (get_or l i blank).handle h) (sym e ∙ f))
+  where
+    by : (t u : Bool) → (if t then u else false) ≡ false → ◌≡◌ {A = Option ℕ} None (if t then (if u then Some i else None) else None)
+    by true true g = absurd (let z : ◌≡◌ {A = ℕ} 0 1 = cc in omega arith)
+    by true false g = refl
+    by false u g = refl
 
 -- what each answer says
 pub find_at : (h : ℕ) (l : List Slot) {i : ℕ} → find_in h l ≡ Some i → (i < length l) × ((get_or l i blank).handle ≡ h)
