@@ -111,6 +111,7 @@ fn copy_bytes(room: &mut [u8], from: usize, to: usize, n: usize)
     room.copy_within(from..from + n, to);
 }
 
+#[tactic(auto, unfolding(crate::specs::Slots::table_bytes))]
 impl<const MOST: usize> Table<MOST> {
     // How many slots the table has.
     pub fn size(self, room: &[u8]) -> usize

@@ -10,7 +10,3 @@ pub returns : goal.returns
 unfolding slots_from table_bytes
 returns g c =
     resized _ _ _ (word-put _ _ (omega arith) (omega arith) c.put_low32.ensures) (omega arith) c.requires refl
-
-pub put_low32-requires : goal.put_low32-requires
-unfolding table_bytes
-put_low32-requires g c = omega arith

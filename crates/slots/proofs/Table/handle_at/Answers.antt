@@ -7,15 +7,3 @@ use Rattle.slots.proofs.Table.handle_at.Goals as goal
 
 pub returns : goal.returns
 returns g c = c.low32.ensures ∙ sym (table-handle _ _ _ c.requires.i_bound)
-
-pub overflow_mul-i : goal.overflow_mul-i
-unfolding table_bytes
-overflow_mul-i g c = omega arith
-
-pub overflow_add-self-2 : goal.overflow_add-self-2
-unfolding table_bytes
-overflow_add-self-2 g c = omega arith
-
-pub low32-requires : goal.low32-requires
-unfolding table_bytes
-low32-requires g c = omega arith

@@ -18,7 +18,3 @@ unfolding hit
 returns-else-i-size g c =
     let past : length (table_at c.args.room.now c.args.self.base) ≤ c.args.i = omega (arith, table-length c.args.room.now c.args.self.base) in
     rw (le-ltb c.args.i c.size.result (omega arith), le-ltb _ _ past)
-
-pub size-requires : goal.size-requires
-unfolding table_bytes
-size-requires g c = omega arith

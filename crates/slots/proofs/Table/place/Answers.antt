@@ -21,7 +21,3 @@ loop-lo-preserved g c =
 pub returns : goal.returns
 unfolding table_bytes
 returns g c = seek-done _ _ _ _ c.loop-lo.invariant c.loop-lo-test.false
-
-pub size-hi-requires : goal.size-hi-requires
-unfolding table_bytes
-size-hi-requires g c = omega arith

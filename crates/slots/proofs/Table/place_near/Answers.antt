@@ -25,7 +25,3 @@ returns-then-handle_at-handle g c =
 pub returns : goal.returns
 unfolding table_bytes
 returns g c = search rules
-
-pub size-n-requires : goal.size-n-requires
-unfolding table_bytes
-size-n-requires g c = omega arith

@@ -10,15 +10,3 @@ unfolding table_bytes
 returns g c =
     pushed _ _ _ c.requires.stands c.size-end.ensures (omega arith) c.store.ensures
     (word-put _ _ (omega arith) (omega arith) c.put_low32.ensures)
-
-pub size-end-requires : goal.size-end-requires
-unfolding table_bytes
-size-end-requires g c = omega arith
-
-pub store-requires : goal.store-requires
-unfolding table_bytes
-store-requires g c = omega arith
-
-pub put_low32-requires : goal.put_low32-requires
-unfolding table_bytes
-put_low32-requires g c = omega arith

@@ -18,27 +18,3 @@ returns g c =
     rw (← marks-same c.args.room.now c.args.from.base c.args.i c.requires.i_bound c.low32-marks.ensures)
     (pushed _ _ _ c.requires.stands c.size-end.ensures (omega arith) c.copy.ensures
     (word-put _ _ (omega arith) (omega arith) c.put_low32.ensures))
-
-pub size-end-requires : goal.size-end-requires
-unfolding table_bytes
-size-end-requires g c = omega arith
-
-pub overflow_mul-at : goal.overflow_mul-at
-unfolding table_bytes
-overflow_mul-at g c = omega arith
-
-pub overflow_add-at-2 : goal.overflow_add-at-2
-unfolding table_bytes
-overflow_add-at-2 g c = omega arith
-
-pub overflow_add-at-3 : goal.overflow_add-at-3
-unfolding table_bytes
-overflow_add-at-3 g c = omega arith
-
-pub low32-marks-requires : goal.low32-marks-requires
-unfolding table_bytes
-low32-marks-requires g c = omega arith
-
-pub put_low32-requires : goal.put_low32-requires
-unfolding table_bytes
-put_low32-requires g c = omega arith

@@ -17,11 +17,3 @@ unfolding table_bytes
 returns g c =
     tailed _ _ _ _ _ c.requires.stands c.size-n.ensures (omega arith) (omega arith) c.copy_bytes.ensures
     (word-put _ _ (omega arith) (omega arith) c.put_low32.ensures)
-
-pub size-n-requires : goal.size-n-requires
-unfolding table_bytes
-size-n-requires g c = omega arith
-
-pub put_low32-requires : goal.put_low32-requires
-unfolding table_bytes
-put_low32-requires g c = omega arith

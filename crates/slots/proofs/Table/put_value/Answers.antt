@@ -11,23 +11,3 @@ returns g c =
     rw (table-get c.args.room.now c.args.self.base c.args.i c.requires.i_bound)
     (replaced _ _ _ c.requires.stands c.requires.i_bound
     (slot-valued _ _ _ (word-put _ _ (omega arith) (omega arith) c.put_low32.ensures) c.requires.column_bound))
-
-pub overflow_mul-i : goal.overflow_mul-i
-unfolding table_bytes
-overflow_mul-i g c = omega arith
-
-pub overflow_add-self-2 : goal.overflow_add-self-2
-unfolding table_bytes
-overflow_add-self-2 g c = omega arith
-
-pub overflow_add-self-3 : goal.overflow_add-self-3
-unfolding table_bytes
-overflow_add-self-3 g c = omega arith
-
-pub overflow_add-self-4 : goal.overflow_add-self-4
-unfolding table_bytes
-overflow_add-self-4 g c = omega arith
-
-pub put_low32-requires : goal.put_low32-requires
-unfolding table_bytes
-put_low32-requires g c = omega arith
