@@ -32,6 +32,7 @@ fn joined(kind: u8, mask: u8, table: u8) -> u32
     kind as u32 * 16777216 + mask as u32 * 65536 + table as u32 * 256
 }
 
+#[tactic(auto, unfolding(crate::specs::Slots::slot_at))]
 fn load(room: &[u8], at: usize) -> Slot
     requires { at + 24 ≤ length room.now }
     ensures { result ≡ slot_at room.now at }

@@ -1,7 +1,5 @@
 -- `slots::Table::handle_at` meets its contract: the handle stands in the first word of the slot at the place.
 use mathlib.Core.Path.{sym, ◌∙◌}
-use native.Mathlib.Omega.{arith}
-use Rattle.slots.specs.Slots.{table_bytes}
 use Rattle.slots.proofs.Tables.{table-handle}
 use Rattle.slots.proofs.Table.handle_at.Goals as goal
 

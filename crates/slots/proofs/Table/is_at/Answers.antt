@@ -3,7 +3,7 @@ use borrow.Author.Tests.{lt-ltb, le-ltb}
 use native.Mathlib.Omega.{arith}
 use Prim.Native.Nat.{◌≤◌, ◌<◌}
 use lib.ListN.{length}
-use Rattle.slots.specs.Slots.{table_bytes, table_at, hit}
+use Rattle.slots.specs.Slots.{table_at, hit}
 use Rattle.slots.proofs.Tables.{table-length}
 use Rattle.slots.proofs.Table.is_at.Goals as goal
 

@@ -1,8 +1,7 @@
 -- `slots::Table::kind_at` meets its contract: the field stands in the second word of the slot at the place.
 use mathlib.Core.Path.{sym, ap}
-use native.Mathlib.Omega.{arith}
 use Rattle.slots.specs.declared.Slot.{Slot}
-use Rattle.slots.specs.Slots.{slot_at, table_bytes}
+use Rattle.slots.specs.Slots.{slot_at}
 use Rattle.slots.proofs.Tables.{table-get}
 use Rattle.slots.proofs.Table.kind_at.Goals as goal
 

@@ -1,9 +1,7 @@
 -- `slots::Table::place_near` meets its contract: the place of a handle that is there is where it is, since handles rise, and a handle above the
 -- last has its place at the end.
 use mathlib.Core.Path.{sym}
-use borrow.Author.Rules.{rules}
 use native.Mathlib.Omega.{arith}
-use Rattle.slots.specs.Slots.{table_bytes}
 use Rattle.slots.proofs.Tables.{table-length}
 use Rattle.slots.proofs.Order.{place-there, place_end, hit-at}
 use Rattle.slots.proofs.Table.place_near.Goals as goal
@@ -21,7 +19,3 @@ pub returns-then-handle_at-handle : goal.returns-then-handle_at-handle
 returns-then-handle_at-handle g c =
     sym
     (place_end _ _ _ c.requires.sorted (omega (arith, table-length c.args.room.now c.args.self.base)) (λ p. omega (arith, c.handle_at.ensures)))
-
-pub returns : goal.returns
-unfolding table_bytes
-returns g c = search rules

@@ -5,13 +5,6 @@ use Rattle.slots.proofs.Frames.{word-put}
 use Rattle.slots.proofs.Tables.{marks-same, pushed}
 use Rattle.slots.proofs.Table.push_from.Goals as goal
 
-pub copy-requires : goal.copy-requires
-unfolding table_bytes
-copy-requires g c = record {
-  from_in_bounds = omega arith;
-  to_in_bounds = omega arith;
-}
-
 pub returns : goal.returns
 unfolding table_bytes
 returns g c =

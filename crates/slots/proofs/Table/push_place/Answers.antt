@@ -7,13 +7,6 @@ use Rattle.slots.proofs.Frames.{word-put}
 use Rattle.slots.proofs.Tables.{marks-kind, pushed}
 use Rattle.slots.proofs.Table.push_place.Goals as goal
 
-pub copy-requires : goal.copy-requires
-unfolding table_bytes
-copy-requires g c = record {
-  from_in_bounds = omega arith;
-  to_in_bounds = omega arith;
-}
-
 pub returns : goal.returns
 unfolding table_bytes
 returns g c =

@@ -5,13 +5,6 @@ use Rattle.slots.proofs.Frames.{word-put}
 use Rattle.slots.proofs.Tables.{tailed}
 use Rattle.slots.proofs.Table.put_tail.Goals as goal
 
-pub copy_bytes-requires : goal.copy_bytes-requires
-unfolding table_bytes
-copy_bytes-requires g c = record {
-  n_bound = omega arith;
-  n_in_bounds = omega arith;
-}
-
 pub returns : goal.returns
 unfolding table_bytes
 returns g c =

@@ -1,7 +1,5 @@
 -- `slots::Table::slot_at` meets its contract: the slot in the twenty-four bytes of its place is the list's.
 use mathlib.Core.Path.{sym, ◌∙◌}
-use native.Mathlib.Omega.{arith}
-use Rattle.slots.specs.Slots.{table_bytes}
 use Rattle.slots.proofs.Tables.{table-get}
 use Rattle.slots.proofs.Table.slot_at.Goals as goal
 

@@ -1,7 +1,6 @@
 -- `slots::Table::value_at` meets its contract: the values stand in the last four words of the slot at the place, and there are no others.
 use mathlib.Core.Path.{◌∙◌}
 use native.Mathlib.Omega.{arith}
-use Rattle.slots.specs.Slots.{table_bytes}
 use Rattle.slots.proofs.Tables.{table-value, no_value}
 use Rattle.slots.proofs.Table.value_at.Goals as goal
 
