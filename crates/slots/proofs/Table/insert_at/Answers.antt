@@ -1,5 +1,5 @@
--- `slots::Table::insert_at` meets its contract: the slots from the place on move up, the slot takes the place that is free, and the size counts
--- it.
+-- `slots::Table::insert_at` meets its contract: the slots from the place on move up, the slot takes the place that is free, and the size
+-- counts it.
 use native.Mathlib.Omega.{arith}
 use Rattle.slots.specs.Slots.{table_bytes}
 use Rattle.slots.proofs.Frames.{word-put}

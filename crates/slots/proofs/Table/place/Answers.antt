@@ -1,4 +1,5 @@
--- `slots::Table::place` meets its contract: before each turn every slot before `lo` is below the handle, and every slot from `hi` on is not.
+-- `slots::Table::place` meets its contract: before each turn every slot before `lo` is below the handle, and every slot from `hi` on is
+-- not.
 use native.Mathlib.Omega.{arith}
 use Rattle.slots.specs.Slots.{table_bytes}
 use Rattle.slots.proofs.Tables.{table-length}

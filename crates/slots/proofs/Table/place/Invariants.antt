@@ -1,4 +1,5 @@
--- `slots::Table::place` meets its contract: before each turn every slot before `lo` is below the handle, and every slot from `hi` on is not.
+-- `slots::Table::place` meets its contract: before each turn every slot before `lo` is below the handle, and every slot from `hi` on is
+-- not.
 use Prim.Native.Nat.{◌-◌}
 use Rattle.words.specs.Words.{low32_at}
 use Rattle.slots.specs.Slots.{table_at}

@@ -1,5 +1,5 @@
--- `slots::Table::place_near` meets its contract: the place of a handle that is there is where it is, since handles rise, and a handle above the
--- last has its place at the end.
+-- `slots::Table::place_near` meets its contract: the place of a handle that is there is where it is, since handles rise, and a handle above
+-- the last has its place at the end.
 use mathlib.Core.Path.{sym}
 use native.Mathlib.Omega.{arith}
 use Rattle.slots.proofs.Tables.{table-length}

@@ -1,5 +1,5 @@
--- `slots::Table::push_place` meets its contract: the slot's words are copied after the last, with the place as the top byte of the second word,
--- and then the size counts it.
+-- `slots::Table::push_place` meets its contract: the slot's words are copied after the last, with the place as the top byte of the second
+-- word, and then the size counts it.
 use Prim.Native.Nat.{◌%◌}
 use native.Mathlib.Omega.{arith}
 use Rattle.slots.specs.Slots.{table_bytes}
