@@ -4,4 +4,4 @@ use Rattle.slots.proofs.Tables.{table-handle}
 use Rattle.slots.proofs.Table.handle_at.Goals as goal
 
 pub returns : goal.returns
-returns g c = c.low32.ensures ∙ sym (table-handle _ _ _ c.requires.i_bound)
+returns g c = rw c.at.ensures at c.low32.ensures ∙ sym (table-handle _ _ _ c.requires.i_bound)

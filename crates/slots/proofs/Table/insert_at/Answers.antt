@@ -9,5 +9,5 @@ use Rattle.slots.proofs.Table.insert_at.Goals as goal
 pub returns : goal.returns
 unfolding table_bytes
 returns g c =
-    inserted _ _ _ _ c.requires.stands c.size-n.ensures (omega arith) (omega arith) c.move_up.ensures
-    c.store.ensures (word-put _ _ (omega arith) (omega arith) c.put_low32.ensures)
+    inserted _ _ _ _ c.requires.stands c.size-n.ensures (omega arith) (omega arith) (rw c.at-at.ensures at c.move_up.ensures)
+    (rw c.at-at.ensures at c.store.ensures) (word-put _ _ (omega arith) (omega arith) c.put_low32.ensures)

@@ -8,5 +8,5 @@ use Rattle.slots.proofs.Table.push.Goals as goal
 pub returns : goal.returns
 unfolding table_bytes
 returns g c =
-    pushed _ _ _ c.requires.stands c.size-end.ensures (omega arith) c.store.ensures
+    pushed _ _ _ c.requires.stands c.size-end.ensures (omega arith) (rw c.at.ensures at c.store.ensures)
     (word-put _ _ (omega arith) (omega arith) c.put_low32.ensures)

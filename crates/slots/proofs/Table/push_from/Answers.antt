@@ -8,6 +8,7 @@ use Rattle.slots.proofs.Table.push_from.Goals as goal
 pub returns : goal.returns
 unfolding table_bytes
 returns g c =
-    rw (← marks-same c.args.room.now c.args.from.base c.args.i c.requires.i_bound c.low32-marks.ensures)
-    (pushed _ _ _ c.requires.stands c.size-end.ensures (omega arith) c.copy.ensures
+    let marks = rw c.at-at.ensures at c.low32-marks.ensures in
+    rw (← marks-same c.args.room.now c.args.from.base c.args.i c.requires.i_bound marks)
+    (pushed _ _ _ c.requires.stands c.size-end.ensures (omega arith) (rw (c.at-at.ensures, c.at.ensures) at c.copy.ensures)
     (word-put _ _ (omega arith) (omega arith) c.put_low32.ensures))

@@ -4,4 +4,4 @@ use Rattle.slots.proofs.Table.put_at.Goals as goal
 
 pub returns : goal.returns
 returns g c =
-    replaced _ _ _ c.requires.stands c.requires.i_bound c.store.ensures
+    replaced _ _ _ c.requires.stands c.requires.i_bound (rw c.at.ensures at c.store.ensures)

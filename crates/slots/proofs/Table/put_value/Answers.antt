@@ -10,4 +10,4 @@ unfolding table_bytes
 returns g c =
     rw (table-get c.args.room.now c.args.self.base c.args.i c.requires.i_bound)
     (replaced _ _ _ c.requires.stands c.requires.i_bound
-    (slot-valued _ _ _ (word-put _ _ (omega arith) (omega arith) c.put_low32.ensures) c.requires.column_bound))
+    (slot-valued _ _ _ (word-put _ _ (omega arith) (omega arith) (rw c.at.ensures at c.put_low32.ensures)) c.requires.column_bound))

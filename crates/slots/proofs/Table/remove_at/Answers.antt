@@ -12,7 +12,7 @@ pub returns : goal.returns
 unfolding table_bytes
 returns g c =
     let small : c.size-n.result < 4294967296 = rw c.size-n.ensures (low32-lt _ (search rules) _) in
-    removed _ _ _ _ c.requires.stands c.size-n.ensures (omega arith) c.move_down.ensures
+    removed _ _ _ _ c.requires.stands c.size-n.ensures (omega arith) (rw c.at.ensures at c.move_down.ensures)
     (word-put _ _ (omega arith) (omega arith) c.put_low32.ensures)
 
 pub overflow_cast-n : goal.overflow_cast-n

@@ -4,4 +4,4 @@ use Rattle.slots.proofs.Tables.{table-get}
 use Rattle.slots.proofs.Table.slot_at.Goals as goal
 
 pub returns : goal.returns
-returns g c = c.load.ensures ∙ sym (table-get _ _ _ c.requires.i_bound)
+returns g c = rw c.at.ensures at c.load.ensures ∙ sym (table-get _ _ _ c.requires.i_bound)

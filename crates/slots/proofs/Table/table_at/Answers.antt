@@ -8,4 +8,4 @@ use Rattle.slots.proofs.Table.table_at.Goals as goal
 pub returns : goal.returns
 unfolding slot_at
 returns g c =
-    rw c.low32.ensures (sym (ap (λ (e : Slot). e.table) (table-get _ _ _ c.requires.i_bound)))
+    rw (c.low32.ensures, c.at.ensures) (sym (ap (λ (e : Slot). e.table) (table-get _ _ _ c.requires.i_bound)))

@@ -8,4 +8,4 @@ pub returns-then-column-ge4 : goal.returns-then-column-ge4
 returns-then-column-ge4 g c = no_value _ _ (omega arith)
 
 pub returns : goal.returns
-returns g c = c.low32.ensures ∙ table-value _ _ _ _ (omega arith) (omega arith)
+returns g c = rw c.at.ensures at c.low32.ensures ∙ table-value _ _ _ _ (omega arith) (omega arith)
