@@ -10,6 +10,6 @@ use Rattle.slots.proofs.Table.put_tail.Goals as goal
 pub returns : goal.returns
 unfolding table_bytes
 returns g c =
-    let first : c.at.result ≡ c.args.from.base + 4 = omega (arith, c.at.ensures) in
-    tailed _ _ _ _ _ c.requires.stands c.size-n.ensures (omega arith) (omega arith) (rw (first, c.at-2.ensures) at c.copy_bytes.ensures)
+    let start : c.at.result ≡ c.args.from.base + 4 = omega (arith, c.at.ensures) in
+    tailed _ _ _ _ _ c.requires.stands c.size-n.ensures (omega arith) (omega arith) (rw (start, c.at-2.ensures) at c.copy_bytes.ensures)
     (word-put _ _ (omega arith) (omega arith) c.put_low32.ensures)
