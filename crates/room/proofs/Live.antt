@@ -1,5 +1,6 @@
 -- The live rows, slot by slot: their handles rise, as those of a sound image do, so that a search finds the row that the image has for a
 -- handle; and a push, a removal and a store of a slot do to the rows what an insert, a delete and an update do.
+use Rattle.std.specs.Prelude.{Option, Some, None}
 use mathlib.Core.Path.{◌≡◌, refl, sym, ap, ◌∙◌}
 use mathlib.Core.Bool.{false}
 use mathlib.Core.List.{List, [], ◌∷◌, ◌++◌}
@@ -17,8 +18,6 @@ use Rattle.meaning.specs.Made.{Rising, above, Sound}
 use Rattle.meaning.proofs.Lookups.{row_at-none, row_at-head, row_at-skip}
 use Rattle.meaning.proofs.Images.{make_all-sound}
 use Rattle.slots.specs.declared.Slot.{Slot}
-use Rattle.slots.specs.declared.Found.{Found}
-use Rattle.slots.specs.declared.Found.TheVariants.{At, Nothing}
 use Rattle.slots.specs.Slots.{table_at, remove_at, blank, Sorted, find_in}
 use Rattle.slots.proofs.Order.{Absent, find_at, find-nothing, tail-sorted}
 use Rattle.room.specs.Room.{LIVE, row_meant, rows_meant, live_rows}
@@ -76,16 +75,16 @@ unfolding rows
 row_at-absent h [] a = row_at-none h
 row_at-absent h (e ∷ l) a = row_at-skip h (row_meant e) (rows_meant l) (absent-head a) ∙ row_at-absent h l (absent-tail a)
 
-pub row_at-found : (h : ℕ) (l : List Slot) {i : ℕ} → Sorted l → find_in h l ≡ At i → row_at h (rows_meant l) ≡ some (row_meant (get_or l i blank))
+pub row_at-found : (h : ℕ) (l : List Slot) {i : ℕ} → Sorted l → find_in h l ≡ Some i → row_at h (rows_meant l) ≡ some (row_meant (get_or l i blank))
 row_at-found h l {i} s f = let a = find_at h l f in row_at-slot h i l s a.0 a.1
 
-pub row_at-nowhere : (h : ℕ) (l : List Slot) → Sorted l → find_in h l ≡ Nothing → row_at h (rows_meant l) ≡ none
+pub row_at-nowhere : (h : ℕ) (l : List Slot) → Sorted l → find_in h l ≡ None → row_at h (rows_meant l) ≡ none
 row_at-nowhere h l s f = row_at-absent h l (find-nothing h l s f)
 
 -- a place at which a row stands
 pub record Place (h : ℕ) (l : List Slot) (r : Row) : Type 0 where
   pub at : ℕ
-  pub found : find_in h l ≡ At at
+  pub found : find_in h l ≡ Some at
   pub below : at < length l
   pub handle : (get_or l at blank).handle ≡ h
   pub means : row_meant (get_or l at blank) ≡ r
@@ -138,28 +137,28 @@ module _ {start : Image} {s : State} {xs tables : List ℕ} (reached : Reached s
       let r : Rising s.image.next 0 (rows_meant (table_at xs LIVE)) = rw p.rows (reached-sound reached).rises in
       rising-sorted (table_at xs LIVE) r
 
-  pub found-row : (h : ℕ) {i : ℕ} → find_in h (table_at xs LIVE) ≡ At i
+  pub found-row : (h : ℕ) {i : ℕ} → find_in h (table_at xs LIVE) ≡ Some i
       → row_at h s.image.rows ≡ some (row_meant (get_or (table_at xs LIVE) i blank))
   unfolding live_rows
   found-row h f = ap (row_at h) (sym p.rows) ∙ row_at-found h (table_at xs LIVE) live-sorted f
 
-  pub missing-row : (h : ℕ) → find_in h (table_at xs LIVE) ≡ Nothing → row_at h s.image.rows ≡ none
+  pub missing-row : (h : ℕ) → find_in h (table_at xs LIVE) ≡ None → row_at h s.image.rows ≡ none
   unfolding live_rows
   missing-row h f = ap (row_at h) (sym p.rows) ∙ row_at-nowhere h (table_at xs LIVE) live-sorted f
 
   pub row-found : (h : ℕ) {r : Row} → row_at h s.image.rows ≡ some r → Place h (table_at xs LIVE) r
   row-found h {r} q = go (find_in h (table_at xs LIVE)) refl
     where
-      go : (f : Found) → find_in h (table_at xs LIVE) ≡ f → Place h (table_at xs LIVE) r
-      go (At i) f =
+      go : (f : Option ℕ) → find_in h (table_at xs LIVE) ≡ f → Place h (table_at xs LIVE) r
+      go (Some i) f =
           let a = find_at h (table_at xs LIVE) f in
           let b = found-row h f in
           record { at = i; found = f; below = a.0; handle = a.1; means = cc }
-      go Nothing f = clash (missing-row h f) q
+      go None f = clash (missing-row h f) q
 
-  pub row-missing : (h : ℕ) → row_at h s.image.rows ≡ none → find_in h (table_at xs LIVE) ≡ Nothing
+  pub row-missing : (h : ℕ) → row_at h s.image.rows ≡ none → find_in h (table_at xs LIVE) ≡ None
   row-missing h q = go (find_in h (table_at xs LIVE)) refl
     where
-      go : (f : Found) → find_in h (table_at xs LIVE) ≡ f → find_in h (table_at xs LIVE) ≡ Nothing
-      go (At i) f = clash q (found-row h f)
-      go Nothing f = f
+      go : (f : Option ℕ) → find_in h (table_at xs LIVE) ≡ f → find_in h (table_at xs LIVE) ≡ None
+      go (Some i) f = clash q (found-row h f)
+      go None f = f

@@ -1,6 +1,6 @@
 -- Tables by rising handle: where a handle is. Of lists alone; what stands before a place is below the handle, and what stands from it on is
 -- not.
-use Rattle.std.specs.Prelude.{if◌then◌else◌}
+use Rattle.std.specs.Prelude.{if◌then◌else◌, Option, Some, None}
 use mathlib.Core.Path.{◌≡◌, refl, sym, ap, ◌∙◌, subst}
 use mathlib.Core.Bool.{Bool, true, false}
 use mathlib.Core.List.{List, [], ◌∷◌}
@@ -8,12 +8,11 @@ use mathlib.Core.Logic.{⊎_elim}
 use Prim.Native.Nat.{ℕ, zero, suc, ◌-◌, ◌≤◌, ◌<◌}
 use native.Mathlib.Nat.{eq-or-lt_of_le}
 use native.Mathlib.Omega.{arith}
-use borrow.Author.Tests.{lt-ltb, le-ltb, ltb-true, ltb-false, eq-eqb, ne_eqb, eqb-true}
+use borrow.Author.Tests.{lt-ltb, le-ltb, ltb-true, ltb-false, eq-eqb, eqb-true}
 use lib.Dec.{eqb, ltb}
 use lib.ListN.{length, get_or}
 use Rattle.words.proofs.Laws.{split}
 use Rattle.slots.specs.declared.Slot.{Slot}
-use Rattle.slots.specs.declared.Found.TheVariants.{At, Nothing}
 use Rattle.slots.specs.Slots.{insert_at, blank, place_in, hit, find_in, Sorted}
 
 -- no slot of l has the handle h
@@ -91,21 +90,25 @@ hit-at h i l e f = by (ltb i (length l)) refl (sym e ∙ f)
 
 -- ---- Where the slot of a handle is
 
--- the three answers, by the tests that give them
-pub find-yes : (l : List Slot) (h i : ℕ) → i ≡ place_in h l → i < length l → (get_or l i blank).handle ≡ h → At i ≡ find_in h l
+pub find-yes : (l : List Slot) (h i : ℕ) → i ≡ place_in h l → i < length l → (get_or l i blank).handle ≡ h → Some i ≡ find_in h l
 unfolding find_in
 find-yes l h i q b e = sym (rw (← q, lt-ltb i (length l) b, eq-eqb (get_or l i blank).handle h e))
 
-pub find-other : (l : List Slot) (h i : ℕ) → i ≡ place_in h l → i < length l → ((get_or l i blank).handle ≡ h → ⊥) → Nothing ≡ find_in h l
-unfolding find_in
-find-other l h i q b e = sym (rw (← q, lt-ltb i (length l) b, ne_eqb (get_or l i blank).handle h e))
+-- by whether it is at its place
+pub find-hit : (l : List Slot) (h i : ℕ) {t : Bool} → i ≡ place_in h l → t ≡ hit h i l → t ≡ true → Some i ≡ find_in h l
+find-hit l h i q e f = let here = hit-at h i l e f in find-yes l h i q here.0 here.1
 
-pub find-end : (l : List Slot) (h i : ℕ) → i ≡ place_in h l → length l ≤ i → Nothing ≡ find_in h l
-unfolding find_in
-find-end l h i q b = sym (rw (← q, le-ltb i (length l) b))
+pub find-miss : (l : List Slot) (h i : ℕ) {t : Bool} → i ≡ place_in h l → t ≡ hit h i l → t ≡ false → None ≡ find_in h l
+unfolding hit find_in
+find-miss l h i q e f = rw (← q) (by (ltb i (length l)) (eqb (get_or l i blank).handle h) (sym e ∙ f))
+  where
+    by : (t u : Bool) → (if t then u else false) ≡ false → ◌≡◌ {A = Option ℕ} None (if t then (if u then Some i else None) else None)
+    by true true g = absurd (let z : ◌≡◌ {A = ℕ} 0 1 = cc in omega arith)
+    by true false g = refl
+    by false u g = refl
 
 -- what each answer says
-pub find_at : (h : ℕ) (l : List Slot) {i : ℕ} → find_in h l ≡ At i → (i < length l) × ((get_or l i blank).handle ≡ h)
+pub find_at : (h : ℕ) (l : List Slot) {i : ℕ} → find_in h l ≡ Some i → (i < length l) × ((get_or l i blank).handle ≡ h)
 unfolding find_in
 find_at h l {i} f = by (ltb p (length l)) refl (eqb (get_or l p blank).handle h) refl f
   where
@@ -113,7 +116,7 @@ find_at h l {i} f = by (ltb p (length l)) refl (eqb (get_or l p blank).handle h)
     p = place_in h l
 
     by : (t : Bool) → ltb p (length l) ≡ t → (u : Bool) → eqb (get_or l p blank).handle h ≡ u
-        → (if t then (if u then At p else Nothing) else Nothing) ≡ At i → (i < length l) × ((get_or l i blank).handle ≡ h)
+        → (if t then (if u then Some p else None) else None) ≡ Some i → (i < length l) × ((get_or l i blank).handle ≡ h)
     by true a true b g =
         let same : p ≡ i = cc in
         rw (← same) (ltb-true p (length l) a, eqb-true (get_or l p blank).handle h b)
@@ -139,14 +142,14 @@ absent_by h l s d =
           omega (arith, sorted-le s p j le b));
     }
 
-pub find-nothing : (h : ℕ) (l : List Slot) → Sorted l → find_in h l ≡ Nothing → Absent h l
+pub find-nothing : (h : ℕ) (l : List Slot) → Sorted l → find_in h l ≡ None → Absent h l
 unfolding find_in
 find-nothing h l s f =
     absent_by h l s
     (λ b q. let z : ◌≡◌ {A = ℕ} 0 1 = cc (find-yes l h (place_in h l) refl b q) in omega arith)
 
 -- and the other way
-pub find-there : (h : ℕ) (l : List Slot) (i : ℕ) → Sorted l → i < length l → (get_or l i blank).handle ≡ h → find_in h l ≡ At i
+pub find-there : (h : ℕ) (l : List Slot) (i : ℕ) → Sorted l → i < length l → (get_or l i blank).handle ≡ h → find_in h l ≡ Some i
 find-there h l i s b q =
     sym (find-yes l h i (sym (place-there h l i s b q)) b q)
 

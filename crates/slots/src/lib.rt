@@ -32,6 +32,7 @@ fn joined(kind: u8, mask: u8, table: u8) -> u32
     kind as u32 * 16777216 + mask as u32 * 65536 + table as u32 * 256
 }
 
+#[tactic(auto, unfolding(crate::specs::Slots::slot_at))]
 fn load(room: &[u8], at: usize) -> Slot
     requires { at + 24 ≤ length room.now }
     ensures { result ≡ slot_at room.now at }
@@ -59,12 +60,6 @@ fn store(room: &mut [u8], at: usize, e: Slot)
     words::put_low32(room, at + 12, e.v1);
     words::put_low32(room, at + 16, e.v2);
     words::put_low32(room, at + 20, e.v3);
-}
-
-// A table with room for `MOST` slots: its size at its base, and after it its slots.
-#[derive(Clone, Copy)]
-pub struct Table<const MOST: usize> {
-    pub base: usize,
 }
 
 // The 24 bytes of a slot at another place, with other marks: kind, mask and table in one word.
@@ -111,7 +106,22 @@ fn copy_bytes(room: &mut [u8], from: usize, to: usize, n: usize)
     room.copy_within(from..from + n, to);
 }
 
+// A table with room for `MOST` slots: its size at its base, and after it its slots.
+#[derive(Clone, Copy)]
+pub struct Table<const MOST: usize> {
+    pub base: usize,
+}
+
+#[tactic(auto, unfolding(crate::specs::Slots::table_bytes))]
 impl<const MOST: usize> Table<MOST> {
+    // Where the slot i stands.
+    fn at(self, i: usize) -> usize
+        requires { self.base + 4 + 24 * i < 18446744073709551616 }
+        ensures { result ≡ self.entry.base + 4 + 24 * i }
+    {
+        self.base + HEAD + SLOT * i
+    }
+
     // How many slots the table has.
     pub fn size(self, room: &[u8]) -> usize
         requires { self.base + 4 ≤ length room.now }
@@ -126,7 +136,7 @@ impl<const MOST: usize> Table<MOST> {
         requires i_bound { i < low32_at room.now self.base }
         ensures { result ≡ get_or (table_at room.now self.entry.base) i blank }
     {
-        load(room, self.base + HEAD + SLOT * i)
+        load(room, self.at(i))
     }
 
     // The handle of the slot i, without the rest of it.
@@ -135,7 +145,7 @@ impl<const MOST: usize> Table<MOST> {
         requires i_bound { i < low32_at room.now self.base }
         ensures { result ≡ (get_or (table_at room.now self.entry.base) i blank).handle }
     {
-        words::low32(room, self.base + HEAD + SLOT * i)
+        words::low32(room, self.at(i))
     }
 
     // The same for its kind.
@@ -144,7 +154,7 @@ impl<const MOST: usize> Table<MOST> {
         requires i_bound { i < low32_at room.now self.base }
         ensures { result ≡ (get_or (table_at room.now self.entry.base) i blank).kind }
     {
-        (words::low32(room, self.base + HEAD + SLOT * i + 4) / 16777216 % 256) as usize
+        (words::low32(room, self.at(i) + 4) / 16777216 % 256) as usize
     }
 
     // The same for its mask.
@@ -153,7 +163,7 @@ impl<const MOST: usize> Table<MOST> {
         requires i_bound { i < low32_at room.now self.base }
         ensures { result ≡ (get_or (table_at room.now self.entry.base) i blank).mask }
     {
-        (words::low32(room, self.base + HEAD + SLOT * i + 4) / 65536 % 256) as usize
+        (words::low32(room, self.at(i) + 4) / 65536 % 256) as usize
     }
 
     // The same for its value in a column; past the last column it is 0.
@@ -165,7 +175,7 @@ impl<const MOST: usize> Table<MOST> {
         if 4 <= column {
             return 0;
         }
-        words::low32(room, self.base + HEAD + SLOT * i + 8 + 4 * column)
+        words::low32(room, self.at(i) + 8 + 4 * column)
     }
 
     // The same for its field `table`.
@@ -174,7 +184,7 @@ impl<const MOST: usize> Table<MOST> {
         requires i_bound { i < low32_at room.now self.base }
         ensures { result ≡ (get_or (table_at room.now self.entry.base) i blank).table }
     {
-        (words::low32(room, self.base + HEAD + SLOT * i + 4) / 256 % 256) as usize
+        (words::low32(room, self.at(i) + 4) / 256 % 256) as usize
     }
 
     // How many slots at the front of a table by rising handle have a handle below another: by halving. What is searched is bytes, and no
@@ -256,7 +266,7 @@ impl<const MOST: usize> Table<MOST> {
         requires i_bound { i < low32_at room.old self.base }
         ensures { Holds self.entry.base MOST room.old room.new (set (table_at room.old self.entry.base) i e) }
     {
-        store(room, self.base + HEAD + SLOT * i, e);
+        store(room, self.at(i), e);
     }
 
     // A slot more at a place; those from there on move up.
@@ -268,7 +278,7 @@ impl<const MOST: usize> Table<MOST> {
         ensures { Holds self.entry.base MOST room.old room.new (insert_at i e (table_at room.old self.entry.base)) }
     {
         let n = self.size(room);
-        let at = self.base + HEAD + SLOT * i;
+        let at = self.at(i);
         move_up(room, at, SLOT * (n - i));
         store(room, at, e);
         words::put_low32(room, self.base, (n + 1) as u32);
@@ -281,7 +291,7 @@ impl<const MOST: usize> Table<MOST> {
         ensures { Holds self.entry.base MOST room.old room.new (remove_at i (table_at room.old self.entry.base)) }
     {
         let n = self.size(room);
-        move_down(room, self.base + HEAD + SLOT * i, SLOT * (n - 1 - i));
+        move_down(room, self.at(i), SLOT * (n - 1 - i));
         words::put_low32(room, self.base, (n - 1) as u32);
     }
 
@@ -293,7 +303,7 @@ impl<const MOST: usize> Table<MOST> {
         ensures { Holds self.entry.base MOST room.old room.new (table_at room.old self.entry.base ++ (e ∷ [])) }
     {
         let end = self.size(room);
-        store(room, self.base + HEAD + SLOT * end, e);
+        store(room, self.at(end), e);
         words::put_low32(room, self.base, (end + 1) as u32);
     }
 
@@ -305,7 +315,7 @@ impl<const MOST: usize> Table<MOST> {
         ensures { Holds self.entry.base MOST room.old room.new
             (set (table_at room.old self.entry.base) i (with_value (get_or (table_at room.old self.entry.base) i blank) column v)) }
     {
-        words::put_low32(room, self.base + HEAD + SLOT * i + 8 + 4 * column, v);
+        words::put_low32(room, self.at(i) + 8 + 4 * column, v);
     }
 
     // The slot i of another table once more, at the end of this one.
@@ -319,9 +329,9 @@ impl<const MOST: usize> Table<MOST> {
             (table_at room.old self.entry.base ++ (get_or (table_at room.old from.entry.base) i blank ∷ [])) }
     {
         let end = self.size(room);
-        let at = from.base + HEAD + SLOT * i;
+        let at = from.at(i);
         let marks = words::low32(room, at + 4);
-        copy(room, at, self.base + HEAD + SLOT * end, marks);
+        copy(room, at, self.at(end), marks);
         words::put_low32(room, self.base, (end + 1) as u32);
     }
 
@@ -336,9 +346,9 @@ impl<const MOST: usize> Table<MOST> {
             (table_at room.old self.entry.base ++ (with_kind (get_or (table_at room.old from.entry.base) i blank) (i % 256) ∷ [])) }
     {
         let end = self.size(room);
-        let at = from.base + HEAD + SLOT * i;
+        let at = from.at(i);
         let marks = words::low32(room, at + 4) % 16777216 + (i % 256) as u32 * 16777216;
-        copy(room, at, self.base + HEAD + SLOT * end, marks);
+        copy(room, at, self.at(end), marks);
         words::put_low32(room, self.base, (end + 1) as u32);
     }
 
@@ -354,12 +364,7 @@ impl<const MOST: usize> Table<MOST> {
             (take first (table_at room.old self.entry.base) ++ table_at room.old from.entry.base) }
     {
         let n = from.size(room);
-        copy_bytes(
-            room,
-            from.base + HEAD,
-            self.base + HEAD + SLOT * first,
-            SLOT * n,
-        );
+        copy_bytes(room, from.at(0), self.at(first), SLOT * n);
         words::put_low32(room, self.base, (first + n) as u32);
     }
 

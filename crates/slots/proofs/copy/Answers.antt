@@ -4,9 +4,6 @@ use native.Mathlib.Omega.{arith}
 use Rattle.slots.proofs.Frames.{slot-copied}
 use Rattle.slots.proofs.copy.Goals as goal
 
-pub put_low32-requires-6 : goal.put_low32-requires-6
-put_low32-requires-6 c = omega arith
-
 pub returns : goal.returns
 returns c =
     slot-copied _ _ _ (search rules) (omega arith) c.requires.to_in_bounds
