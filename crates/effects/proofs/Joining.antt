@@ -129,6 +129,10 @@ joined-handle e op q =
 
 -- ---- Of a table in the room
 
+-- a place that is hit is in the table
+pub hit-within : (xs : List ℕ) (base i h : ℕ) → hit h i (table_at xs base) ≡ true → i < low32_at xs base
+hit-within xs base i h q = omega (arith, (hit-true h i (table_at xs base) q).0, table-length xs base)
+
 module _ (xs : List ℕ) (base i : ℕ) (op : Slot) (at : i ≡ place_in op.handle (table_at xs base)) where
   -- a table that takes an operation on another handle has a slot free
   pub free-slot : hit op.handle i (table_at xs base) ≡ false → Takes op (table_at xs base) → low32_at xs base < 128

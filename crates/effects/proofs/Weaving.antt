@@ -145,7 +145,7 @@ module _ (xs : List ℕ) (base h i : ℕ) (low : i ≤ place_in h (table_at xs b
         subst (λ (k : ℕ). h ≤ (get_or A k blank).handle) same (place-over h A (omega (arith, table-length xs base))) in
         absurd (omega arith))
 
-    pub place-last : n ≤ i → i ≡ place_in h (table_at xs base)
+    pub place-last : n ≤ i → n ≡ place_in h (table_at xs base)
     place-last b = omega (arith, place-within h (table_at xs base), table-length xs base)
 
 -- ---- At the place of an effect's handle
