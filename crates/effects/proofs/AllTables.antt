@@ -13,7 +13,7 @@ use Rattle.words.specs.Words.{low32_at}
 use Rattle.words.proofs.Laws.{split}
 use Rattle.slots.specs.declared.Slot.{Slot}
 use Rattle.slots.specs.Slots.{slots_from, table_at, table_bytes, Frame, Stands, Holds}
-use Rattle.slots.proofs.Frames.{frame-refl, frame-wider, frame-join}
+use Rattle.slots.proofs.Frames.{frame-wider, frame-join}
 use Rattle.slots.proofs.Tables.{table-kept-below, table-kept-above, stands-kept-below, stands-kept-above}
 use Rattle.room.specs.Room.{LIVE, INSERTED, DELETED, NEW, OLD, CHOSEN, WORKED, STRETCH, SPARE, END, ROWS, wait_at, Laid}
 use Rattle.room.specs.Joins.{join_stretch, settled_at, Settleable, AllSettled}
@@ -25,10 +25,6 @@ pub record Upto (xs x tables : List ℕ) (k : ℕ) : Type 0 where
   pub frame : Frame SPARE (wait_at k) xs x
   pub stands : (j : ℕ) → j < 16 → Stands (wait_at j) 128 x
   pub done : (j : ℕ) → j < k → get_or tables j 0 ≤ 3 → table_at x (wait_at j) ≡ settled_at xs (wait_at j) (get_or tables j 0)
-
-pub upto-start : {xs tables : List ℕ} → Settleable xs tables → Upto xs xs tables 0
-upto-start r =
-    record { top = omega arith; frame = frame-refl; stands = r.laid.waits; done = λ j h a. absurd (omega arith) }
 
 -- a change of table k leaves the others standing
 stand-after : {x y : List ℕ} (k : ℕ) → ((j : ℕ) → j < 16 → Stands (wait_at j) 128 x) → Frame (wait_at k) (wait_at k + table_bytes 128) x y
@@ -109,26 +105,6 @@ module _ {xs x tables : List ℕ} (ready : Settleable xs tables) (k : ℕ) (up :
             (λ (q : j ≡ k). let off' : 4 ≤ get_or tables j 0 = rw q off in absurd (omega arith))
             (λ (q : j < k). up.done j q on)
             (eq-or-lt_of_le le);
-      }
-
-  -- past the last rule there is none to settle
-  pub upto-ended : k < 16 → 4 < get_or tables k 0 → WaitsSettled xs x tables
-  upto-ended h past =
-      record {
-        frame = frame-wider up.frame (omega arith) (omega arith);
-        stands = up.stands;
-        waits = λ j b on.
-            split (ltb j k)
-            (λ e. up.done j (ltb-true j k e) on)
-            (λ e. absurd (omega (arith, ready.ended.stays k j (ltb-false j k e) b past)));
-      }
-
-  pub upto_done : 16 ≤ k → WaitsSettled xs x tables
-  upto_done h =
-      record {
-        frame = frame-wider up.frame (omega arith) (omega (arith, up.top));
-        stands = up.stands;
-        waits = λ j b. up.done j (omega arith);
       }
 
 -- ---- Nothing of the stretch is left, and the tables under the spare one are empty again

@@ -4,12 +4,12 @@ use Rattle.std.specs.Prelude.{if◌then◌else◌}
 use mathlib.Core.Path.{◌≡◌, refl, sym, ap, ◌∙◌}
 use mathlib.Core.Bool.{Bool, true, false}
 use mathlib.Core.List.{List, [], ◌∷◌, ◌++◌}
-use Prim.Native.Nat.{ℕ, zero, suc, ◌≤◌, ◌<◌}
+use Prim.Native.Nat.{ℕ, suc, ◌<◌}
 use native.Mathlib.Omega.{arith}
 use borrow.Author.Tests.{eq-eqb, ne_eqb, ltb-true, ltb-false, eqb-true}
 use lib.Bits.{bit_or}
 use lib.Dec.{eqb, ltb}
-use lib.ListN.{length, get_or, take, drop, set}
+use lib.ListN.{length, get_or, take, drop, set, drop_of_length-le}
 use lib.Seq.{drop-cons, set_split, set-get_or}
 use Rattle.meaning.specs.RowOperations.{join_kind, join_table}
 use Rattle.words.specs.Words.{low32_at}
@@ -54,12 +54,6 @@ parts op (e ∷ l) = by (ltb e.handle op.handle) (parts op l)
         ++ here op (drop (if t then suc (place_in op.handle l) else 0) (e ∷ l))
     by true r = ap (λ (m : List Slot). e ∷ m) r
     by false r = refl
-
-pub drop_past : {A : Type 0} (l : List A) (i : ℕ) → length l ≤ i → drop i l ≡ []
-drop_past [] zero h = refl
-drop_past [] (suc i) h = refl
-drop_past (x ∷ l) zero h = absurd (omega arith)
-drop_past (x ∷ l) (suc i) h = drop_past l i (omega arith)
 
 -- a hit is in the list, and of the handle
 pub hit-true : (h i : ℕ) (l : List Slot) → hit h i l ≡ true → (i < length l) × (eqb (get_or l i blank).handle h ≡ true)
@@ -110,7 +104,7 @@ module _ (op : Slot) (l : List Slot) (i : ℕ) (at : i ≡ place_in op.handle l)
           let b : i < length l = ltb-true i (length l) t in
           let e : eqb (get_or l i blank).handle op.handle ≡ false = rw t at q in
           rw (drop-cons l i blank b, e)
-      by false t = rw (drop_past l i (ltb-false i (length l) t))
+      by false t = rw (drop_of_length-le l (ltb-false i (length l) t))
 
 -- slots of the same handle join to one of that handle
 pub joined-handle : (e op : Slot) → e.handle ≡ op.handle → (join_slot e op).handle ≡ e.handle
@@ -128,6 +122,10 @@ joined-handle e op q =
     by false false false = refl
 
 -- ---- Of a table in the room
+
+-- a place that is hit is in the table
+pub hit-within : (xs : List ℕ) (base i h : ℕ) → hit h i (table_at xs base) ≡ true → i < low32_at xs base
+hit-within xs base i h q = omega (arith, (hit-true h i (table_at xs base) q).0, table-length xs base)
 
 module _ (xs : List ℕ) (base i : ℕ) (op : Slot) (at : i ≡ place_in op.handle (table_at xs base)) where
   -- a table that takes an operation on another handle has a slot free

@@ -1,6 +1,6 @@
 -- The spare table lies below what waits and the stretch, so that they stay while it is written. What is written there is always a front of
 -- what is woven in the end, so it has room.
-use mathlib.Core.Path.{◌≡◌, refl, sym, ap, ◌∙◌, subst}
+use mathlib.Core.Path.{◌≡◌, refl, sym, ap, ◌∙◌}
 use mathlib.Core.Bool.{true, false}
 use mathlib.Core.List.{List, [], ◌∷◌, ◌++◌, append_assoc, append-nil}
 use Prim.Native.Nat.{ℕ, suc, ◌+◌, ◌-◌, ◌≤◌, ◌<◌}
@@ -8,7 +8,7 @@ use native.Mathlib.Numerals.{add-one}
 use native.Mathlib.Omega.{arith}
 use borrow.Author.Tests.{eq-eqb, ne_eqb}
 use lib.ListN.{length, get_or, take, drop, length-append, length-drop}
-use lib.Seq.{slice, slice_empty, length-slice, take-suc, take_all, drop-append-le, length-take-le}
+use lib.Seq.{slice, length-slice, take-suc, take_all, drop-append-le, length-take-le}
 use Rattle.meaning.specs.RowOperations.{join_kind}
 use Rattle.words.specs.Words.{low32_at}
 use Rattle.slots.specs.declared.Slot.{Slot}
@@ -57,19 +57,6 @@ pub record Brought (x0 x : List ℕ) (base from to i : ℕ) : Type 0 where
   pub high : i ≤ to
   pub holds : Holds SPARE 128 x0 x (table_at x0 SPARE ++ slice from i (table_at x0 base))
 
-pub bring-start : {x : List ℕ} (base from to : ℕ) → Loom x base → from ≤ to → Brought x x base from to from
-bring-start {x} base from to l h =
-    record {
-      low = omega arith;
-      high = h;
-      holds =
-          record {
-            frame = frame-refl;
-            stands = l.spare;
-            list = sym (rw (slice_empty from (table_at x base)) (append-nil (table_at x SPARE)));
-          };
-    }
-
 module _ {x0 x : List ℕ} {base from to i : ℕ} (l : Loom x0 base) (fits : to ≤ low32_at x0 base) (b : Brought x0 x base from to i) where
   brought-size : low32_at x SPARE ≡ low32_at x0 SPARE + (i - from)
   brought-size =
@@ -102,11 +89,6 @@ module _ {x0 x : List ℕ} {base from to i : ℕ} (l : Loom x0 base) (fits : to 
                   (append_assoc (table_at x0 SPARE) (slice from i A) (get_or A i blank ∷ []));
             };
       }
-
-  pub bring-done : to ≤ i → Holds SPARE 128 x0 x (table_at x0 SPARE ++ slice from to (table_at x0 base))
-  bring-done t =
-      let q : i ≡ to = omega (arith, b.high) in
-      subst (λ (k : ℕ). Holds SPARE 128 x0 x (table_at x0 SPARE ++ slice from k (table_at x0 base))) q b.holds
 
 -- ---- Two slots as one
 
@@ -417,23 +399,12 @@ module _ {x0 x1 x y : List ℕ} {base t first after i j m n : ℕ} (ready : Sett
       → Aside base x0 z (woven_from x0 base t first after)
   put-aside h = record { mid = y; spare = all-spare; holds = rw (all-waits, all-woven) at h }
 
-pub aside-length : {x y : List ℕ} {base : ℕ} {l : List Slot} → Aside base x y l → length y ≡ length x
-aside-length a = a.holds.frame.len ∙ a.spare.len
-
 -- ---- Before the first change nothing is written, and what is left of the stretch has the same to join
 
 pub record Going (x0 x : List ℕ) (base t i j : ℕ) : Type 0 where
   pub same : x ≡ x0
   pub passed : Passed (table_at x base) (table_at x STRETCH) i j
   pub list : settled_at x base t ≡ rest t (table_at x base) (table_at x STRETCH) 0 j
-
-pub go-start : {x : List ℕ} (base t : ℕ) → Settles x base → Going x x base t 0 0
-go-start base t s =
-    record {
-      same = refl;
-      passed = record { sorted = s.sorted; rises = s.rises; top = omega arith; below = λ k l a b c. absurd (omega arith) };
-      list = refl;
-    }
 
 module _ {x0 x : List ℕ} {base t i j : ℕ} (g : Going x0 x base t i j) where
   pub go-ready : Settles x0 base → Settles x base

@@ -1,24 +1,26 @@
--- Whether a slot wakes a rule, by its kind; and the look at one slot after another: those that were passed wake it not, so what is left
--- says whether any does.
+-- Whether a slot wakes a rule, by its kind; and what `any` over the places of a table answers: whether a slot of it does.
 use Rattle.std.specs.Prelude.{if◌then◌else◌}
+use Rattle.std.specs.Bool.{MatchBool}
+use Rattle.std.specs.List.{AllWithin, HoldsAt, range_with_len}
+use Rattle.std.proofs.lemmas.List.FromFn.{length-range_with_len, get_or-range_with_len}
 use mathlib.Core.Path.{◌≡◌, refl, sym, ◌∙◌}
 use mathlib.Core.Bool.{Bool, true, false, not, and-true, and-false}
-use mathlib.Core.List.{List, ◌∷◌}
-use Prim.Native.Nat.{ℕ, suc, ◌-◌, ◌≤◌, ◌<◌}
+use mathlib.Core.List.{List, [], ◌∷◌}
+use Prim.Native.Nat.{ℕ, zero, suc, ◌<◌}
+use native.Mathlib.Nat.{zero-add}
 use native.Mathlib.Omega.{arith}
 use borrow.Author.Tests.{eq-eqb, ne_eqb}
 use lib.Bits.{bit_and}
 use lib.Dec.{eqb}
-use lib.ListN.{length, get_or, drop}
-use lib.Seq.{drop-cons}
+use lib.ListN.{length, get_or}
 use Rattle.meaning.specs.Base.{any, bit}
 use Rattle.meaning.specs.RowOperations.{nothing, inserted, deleted, updated}
 use Rattle.meaning.specs.Processing.TransitionTables.{wakes, own_table, meets}
+use Rattle.words.proofs.Laws.{split}
 use Rattle.slots.specs.declared.Slot.{Slot}
 use Rattle.slots.specs.Slots.{blank}
 use Rattle.room.specs.declared.Watch.{Watch}
 use Rattle.room.specs.Room.{watch_rule, row_meant, effect_meant, entry_meant, wait_meant}
-use Rattle.effects.proofs.Joining.{drop_past}
 
 -- ---- One slot
 
@@ -74,34 +76,36 @@ any-no : (w : Watch) (e : Slot) (l : List Slot) → wakes (watch_rule w) (effect
 unfolding wait_meant entry_meant
 any-no w e l q = rw q
 
--- before a turn with `left` of n slots left
-pub record Asked (w : Watch) (l : List Slot) (n left : ℕ) : Type 0 where
-  pub size : length l ≡ n
-  pub high : left ≤ n
-  pub rest : any_wakes w l ≡ any_wakes w (drop (n - left) l)
+-- whether the slot at a place does
+abbrev pub slot_wakes : Watch → List Slot → ℕ → Bool
+slot_wakes w l i = wakes (watch_rule w) (effect_meant (get_or l i blank))
 
-pub ask-start : (w : Watch) (l : List Slot) (n : ℕ) → length l ≡ n → Asked w l n n
-ask-start w l n q = let z : n - n ≡ 0 = omega arith in record { size = q; high = omega arith; rest = rw z }
+module _ (w : Watch) where
+  one-wakes : (l : List Slot) (i : ℕ) → i < length l → slot_wakes w l i ≡ true → any_wakes w l ≡ true
+  one-wakes [] i h q = absurd (omega arith)
+  one-wakes (e ∷ l) zero h q = any-yes w e l q
+  one-wakes (e ∷ l) (suc i) h q =
+      split (wakes (watch_rule w) (effect_meant e))
+      (any-yes w e l)
+      (λ n. any-no w e l n ∙ one-wakes l i (omega arith) q)
 
-module _ {w : Watch} {l : List Slot} (n left : ℕ) (a : Asked w l n left) where
-  module _ (some : 0 < left) (e : Slot) (read : e ≡ get_or l (n - left) blank) where
-    here : drop (n - left) l ≡ e ∷ drop (suc (n - left)) l
-    here = drop-cons l (n - left) blank (omega (arith, a.size, a.high)) ∙ rw read
-
-    pub ask-yes : wakes (watch_rule w) (effect_meant e) ≡ true → true ≡ any_wakes w l
-    ask-yes q = sym (a.rest ∙ rw here (any-yes w e (drop (suc (n - left)) l) q))
-
-    pub ask-no : wakes (watch_rule w) (effect_meant e) ≡ false → Asked w l n (left - 1)
-    ask-no q =
-        let next : n - (left - 1) ≡ suc (n - left) = omega (arith, a.high) in
-        record {
-          size = a.size;
-          high = omega (arith, a.high);
-          rest = a.rest ∙ rw (here, next) (any-no w e (drop (suc (n - left)) l) q);
-        }
-
-  pub ask-done : left ≤ 0 → false ≡ any_wakes w l
+  none-wakes : (l : List Slot) → ((i : ℕ) → i < length l → slot_wakes w l i ≡ false) → any_wakes w l ≡ false
   unfolding wait_meant
-  ask-done h =
-      let end : n - left ≡ n = omega arith in
-      sym (a.rest ∙ rw (end, drop_past l n (omega (arith, a.size))))
+  none-wakes [] f = refl
+  none-wakes (e ∷ l) f = any-no w e l (f 0 (omega arith)) ∙ none-wakes l (λ i h. f (suc i) (omega arith))
+
+  -- what `any` answers over the places of a table's slots
+  pub any-answered : (l : List Slot) (n : ℕ) (r : Bool) → n ≡ length l
+      → MatchBool r ((i : ℕ) × (i < length (range_with_len 0 n)) × HoldsAt (λ i. slot_wakes w l i ≡ true) (range_with_len 0 n) i)
+      (AllWithin (λ i. slot_wakes w l i ≡ false) (range_with_len 0 n) 0 (length (range_with_len 0 n)))
+      → r ≡ any_wakes w l
+  any-answered l n true s (i, b, f) =
+      let within : i < n = omega (arith, length-range_with_len 0 n) in
+      let it : slot_wakes w l i ≡ true = rw (get_or-range_with_len 0 n i 0 within, zero-add) at (f 0) in
+      sym (one-wakes l i (omega arith) it)
+  any-answered l n false s f = sym (none-wakes l none)
+    where
+      none : (i : ℕ) → i < length l → slot_wakes w l i ≡ false
+      none i h =
+          let within : i < length (range_with_len 0 n) = omega (arith, length-range_with_len 0 n) in
+          rw (get_or-range_with_len 0 n i 0 (omega arith), zero-add) at (f i 0 (omega arith) within)

@@ -9,7 +9,7 @@ use native.Mathlib.Numerals.{add-one}
 use native.Mathlib.Omega.{arith}
 use borrow.Author.Tests.{eq-eqb, ne_eqb, lt-ltb, le-ltb, ltb-true, ltb-false, eqb-true}
 use lib.Dec.{eqb, ltb}
-use lib.ListN.{length, get_or, take, drop, length-drop, take-append-drop}
+use lib.ListN.{length, get_or, take, drop, length-drop, take-append-drop, drop_of_length-le}
 use lib.Seq.{slice, length-slice, drop-cons, drop-append-le, length-take-le, get_or-take, get_or-drop}
 use Rattle.words.specs.Words.{low32_at}
 use Rattle.words.proofs.Laws.{split}
@@ -19,7 +19,7 @@ use Rattle.slots.proofs.Tables.{table-length}
 use Rattle.slots.proofs.Order.{place-within, place-under, place-over, sorted-le}
 use Rattle.room.specs.Joins.{join_slot, kept_slot, join_slots, join_if, join_stretch}
 use Rattle.effects.specs.Settling.{rest, Passed}
-use Rattle.effects.proofs.Joining.{drop_past, hit-true, joined-handle}
+use Rattle.effects.proofs.Joining.{hit-true, joined-handle}
 
 -- each handle of l is above h
 record Above (h : ℕ) (l : List Slot) : Type 0 where
@@ -118,7 +118,7 @@ module _ (t : ℕ) (A S : List Slot) (i j : ℕ) (h : j < length S) where
 -- where all of the stretch is passed
 pub rest-ends : (t : ℕ) (A S : List Slot) (i j : ℕ) → length S ≤ j → rest t A S i j ≡ drop i A
 unfolding join_stretch
-rest-ends t A S i j h = rw (drop_past S j h)
+rest-ends t A S i j h = rw (drop_of_length-le S h)
 
 pub passed_on : {A S : List Slot} {i j : ℕ} → Passed A S i j → Passed A S i (j + 1)
 passed_on p = record { sorted = p.sorted; rises = p.rises; top = p.top; below = λ k l a b c. p.below k l a (omega arith) c }
@@ -145,7 +145,7 @@ module _ (xs : List ℕ) (base h i : ℕ) (low : i ≤ place_in h (table_at xs b
         subst (λ (k : ℕ). h ≤ (get_or A k blank).handle) same (place-over h A (omega (arith, table-length xs base))) in
         absurd (omega arith))
 
-    pub place-last : n ≤ i → i ≡ place_in h (table_at xs base)
+    pub place-last : n ≤ i → n ≡ place_in h (table_at xs base)
     place-last b = omega (arith, place-within h (table_at xs base), table-length xs base)
 
 -- ---- At the place of an effect's handle
@@ -219,7 +219,7 @@ module _ {A S : List Slot} {i j : ℕ} (p : Passed A S i j) (h : j < length S) (
         let high : (get_or S j blank).handle ≤ (get_or A m blank).handle = rw (← at) at (place-over (get_or S j blank).handle A (rw (← at) b)) in
         let other : eqb (get_or A m blank).handle (get_or S j blank).handle ≡ false = rw t at e in
         rw (drop-cons A m blank b, le-ltb (get_or A m blank).handle (get_or S j blank).handle high, other))
-        (λ t. rw (drop_past A m (ltb-false m (length A) t))) in
+        (λ t. rw (drop_of_length-le A (ltb-false m (length A) t))) in
         rest-takes t A S m j h own ∙ ap (join_stretch t (drop (suc j) S)) one
         ∙ passes t (drop (suc j) S) (get_or S j blank) (drop m A) (above-after S j p.rises h)
 

@@ -6,47 +6,13 @@ use Rattle.slots.proofs.Order.{place-within}
 use Rattle.effects.proofs.Joining.{free-slot, joined-insert}
 use Rattle.effects.proofs.join.Goals as goal
 
-pub stays-requires : goal.stays-requires
-stays-requires c =
-    record {
-      stands = c.requires.stands;
-      sorted = c.requires.takes.sorted;
-    }
-
-pub returns-then-stays : goal.returns-then-stays
-returns-then-stays c = c.stays.ensures c.if-stays.true
-
-pub place_near-i-requires : goal.place_near-i-requires
-place_near-i-requires c =
-    record {
-      stands = c.requires.stands;
-      sorted = c.requires.takes.sorted;
-    }
-
-pub join_at-requires : goal.join_at-requires
-join_at-requires c =
-    record {
-      stands = c.requires.stands;
-      sorted = c.requires.takes.sorted;
-      i_value = c.place_near-i.ensures;
-      base_value = rw (← c.is_at.ensures) c.if-is_at.true;
-    }
-
-pub returns-then-is_at : goal.returns-then-is_at
-returns-then-is_at c = c.join_at.ensures
-
 pub insert_at-requires : goal.insert_at-requires
 insert_at-requires c =
     let free = free-slot c.args.room.now 60000 _ c.args.op c.place_near-i.ensures
     (rw (← c.is_at.ensures) c.if-is_at.false) c.requires.takes in
     let low = place-within c.args.op.handle (table_at c.args.room.now 60000) in
     let len = table-length c.args.room.now 60000 in
-    record {
-      stands = c.requires.stands;
-      base_bound = free;
-      most_bound = omega arith;
-      i_bound = omega (arith, c.place_near-i.ensures, low, len);
-    }
+    (omega arith, (c.requires.stands, (free, (omega arith, omega (arith, c.place_near-i.ensures, low, len)))))
 
 pub returns : goal.returns
 returns c =

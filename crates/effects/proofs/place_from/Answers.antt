@@ -6,17 +6,7 @@ use Rattle.effects.proofs.place_from.Goals as goal
 
 pub size-n-requires : goal.size-n-requires
 unfolding table_bytes
-size-n-requires c = omega (arith, c.requires.stands.fits)
-
-pub loop-i-init : goal.loop-i-init
-loop-i-init c = c.requires.from_bound
-
-pub handle_at-requires : goal.handle_at-requires
-handle_at-requires c =
-    record {
-      stands = c.requires.stands;
-      i_bound = omega (arith, c.size-n.ensures);
-    }
+size-n-requires c = (omega arith, omega (arith, c.requires.stands.fits))
 
 pub returns-then-handle-handle_at : goal.returns-then-handle-handle_at
 returns-then-handle-handle_at c =

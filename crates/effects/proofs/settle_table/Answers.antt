@@ -2,52 +2,32 @@
 -- all of it; at the first change both are woven from there on.
 use native.Mathlib.Omega.{arith}
 use Rattle.slots.specs.Slots.{table_bytes}
-use Rattle.effects.proofs.SpareTable.{go-start, go-ready, go-reads, go-other, go-low, go_on, go-weaves, go-woven, go-done}
+use Rattle.effects.proofs.SpareTable.{go-reads, go-other, go-low, go_on, go-weaves, go-woven, go-done}
 use Rattle.effects.proofs.settle_table.Goals as goal
 use Rattle.effects.proofs.settle_table.Goals.{then-op-table+else-not-stays, else-op-table}
 
-pub size-m-requires : goal.size-m-requires
+pub size-j-end-requires : goal.size-j-end-requires
 unfolding table_bytes
-size-m-requires c = omega (arith, c.requires.settles.stretch.fits)
+size-j-end-requires c = (omega arith, omega (arith, c.requires.settles.stretch.fits))
 
-pub loop-j-init : goal.loop-j-init
-loop-j-init c = go-start _ _ c.requires.settles
-
-pub slot_at-op-requires : goal.slot_at-op-requires
-slot_at-op-requires c =
-    record {
-      stands = (go-ready c.loop-j.invariant c.requires.settles).stretch;
-      i_bound = go-reads c.loop-j.invariant c.size-m.ensures c.loop-j-test.true;
-    }
-
-pub place_from-i-requires : goal.place_from-i-requires
-place_from-i-requires c =
-    record {
-      stands = (go-ready c.loop-j.invariant c.requires.settles).waits;
-      from_bound = go-low c.loop-j.invariant (go-reads c.loop-j.invariant c.size-m.ensures c.loop-j-test.true) c.slot_at-op.ensures;
-    }
-
-pub stays-requires : goal.stays-requires
-stays-requires c =
-    let ready = go-ready c.loop-j.invariant c.requires.settles in
-    record {
-      stands = ready.waits;
-      sorted = ready.sorted;
-    }
+pub place_from-i-requires-clause-from_bound : goal.place_from-i-requires-clause-from_bound
+place_from-i-requires-clause-from_bound c =
+    go-low c.loop-j.invariant (go-reads c.loop-j.invariant c.size-j-end.ensures c.loop-j-test.true) c.slot_at-op.ensures
 
 pub weave-requires : goal.weave-requires
 weave-requires c =
-    let given = go-weaves c.loop-j.invariant (go-reads c.loop-j.invariant c.size-m.ensures c.loop-j-test.true) c.slot_at-op.ensures c.place_from-i.ensures
-    c.requires.settles c.requires.table_len_bound in record { settles = given.0; passed = given.1.0; after_len_bound = given.1.1 }
+    let given = go-weaves c.loop-j.invariant (go-reads c.loop-j.invariant c.size-j-end.ensures c.loop-j-test.true) c.slot_at-op.ensures c.place_from-i.ensures
+    c.requires.settles c.requires.table_len_bound in
+    record { settles = given.0; passed = given.1.0; after_len_bound = given.1.1 }
 
 pub returns-then-not-stays : goal.returns-then-not-stays
 returns-then-not-stays c =
-    go-woven c.loop-j.invariant (go-reads c.loop-j.invariant c.size-m.ensures c.loop-j-test.true) c.slot_at-op.ensures
+    go-woven c.loop-j.invariant (go-reads c.loop-j.invariant c.size-j-end.ensures c.loop-j-test.true) c.slot_at-op.ensures
     c.place_from-i.ensures c.weave.ensures
 
 pub loop-j-preserved : goal.loop-j-preserved
 loop-j-preserved c =
-    let reads = go-reads c.loop-j.invariant c.size-m.ensures c.loop-j-test.true in
+    let reads = go-reads c.loop-j.invariant c.size-j-end.ensures c.loop-j-test.true in
     elim c.if-op-table.branch [
       | then-op-table+else-not-stays w ↦
           rw w.i-is
@@ -57,4 +37,4 @@ loop-j-preserved c =
 
 pub returns : goal.returns
 returns c =
-    go-done c.loop-j.invariant c.requires.settles c.size-m.ensures c.loop-j-test.false
+    go-done c.loop-j.invariant c.requires.settles c.size-j-end.ensures c.loop-j-test.false

@@ -23,7 +23,8 @@ returns-in-2 c =
 
 pub returns-else-has_bit : goal.returns-else-has_bit
 returns-else-has_bit c =
-    wakes-not-updated _ _ (sym c.wide.ensures.0 ∙ c.if-wide-rule.false) c.in-3.is (sym c.has_bit-in-3.ensures ∙ c.if-has_bit.false)
+    c.if-has_bit.false
+    ∙ wakes-not-updated _ _ (sym c.wide.ensures.0 ∙ c.if-wide-rule.false) c.in-3.is (sym c.has_bit-in-3.ensures ∙ c.if-has_bit.false)
 
 pub returns-in_default : goal.returns-in_default
 returns-in_default c =

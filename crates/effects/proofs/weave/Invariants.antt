@@ -1,11 +1,7 @@
 -- `effects::weave` meets its contract: before each turn what is woven and what is left are what is to be woven; at the end of the stretch
 -- the rest of what waits is brought, and all of it takes its place.
-use Prim.Native.Nat.{◌-◌}
 use Rattle.effects.proofs.SpareTable.{Weaving}
 use Rattle.effects.proofs.weave.Given as goal
 
 abbrev pub invariant-loop-j : goal.invariant-loop-j
-invariant-loop-j l = Weaving l.initial.room l.room l.base l.table l.first l.after l.i l.j
-
-abbrev pub decreases-loop-j : goal.decreases-loop-j
-decreases-loop-j l = l.m - l.j
+invariant-loop-j l = Weaving l.initial.room l.room l.wait.base l.table l.first l.after l.i l.j

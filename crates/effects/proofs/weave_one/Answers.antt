@@ -5,32 +5,23 @@ use mathlib.Core.Path.{sym, ◌∙◌}
 use Rattle.effects.proofs.SpareTable.{one-low, one-brings, one-loom, one-joins, one-joined, one-pushes, one-new}
 use Rattle.effects.proofs.weave_one.Goals as goal
 
-pub handle_at-handle-requires : goal.handle_at-handle-requires
-handle_at-handle-requires c =
-    record {
-      stands = c.requires.loom.stretch;
-      i_bound = c.requires.within;
-    }
-
-pub place_from-i-requires : goal.place_from-i-requires
-place_from-i-requires c =
-    record {
-      stands = c.requires.loom.waits;
-      from_bound = one-low c.requires c.handle_at-handle.ensures;
-    }
+pub place_from-i-requires-clause-from_bound : goal.place_from-i-requires-clause-from_bound
+place_from-i-requires-clause-from_bound c = one-low c.requires c.handle_at-handle.ensures
 
 pub bring-requires : goal.bring-requires
 bring-requires c =
-    let given = one-brings c.requires c.handle_at-handle.ensures c.place_from-i.ensures in record { loom = given.0; from_le_to = given.1.0; to_bound = given.1.1.0; from_bound = given.1.1.1 }
+    let given = one-brings c.requires c.handle_at-handle.ensures c.place_from-i.ensures in
+    record { loom = given.0; from_le_to = given.1.0; to_bound = given.1.1.0; from_bound = given.1.1.1 }
 
 pub is_at-requires : goal.is_at-requires
 is_at-requires c =
-    (one-loom c.requires c.handle_at-handle.ensures c.place_from-i.ensures c.bring.ensures).waits
+    (omega arith, (one-loom c.requires c.handle_at-handle.ensures c.place_from-i.ensures c.bring.ensures).waits)
 
 pub bring_joined-requires : goal.bring_joined-requires
 bring_joined-requires c =
     let given = one-joins c.requires c.handle_at-handle.ensures c.place_from-i.ensures c.bring.ensures
-    (sym c.is_at.ensures ∙ c.if-is_at.true) in record { loom = given.0; i_bound = given.1.0; j_bound = given.1.1.0; j_len_bound = given.1.1.1 }
+    (sym c.is_at.ensures ∙ c.if-is_at.true) in
+    record { loom = given.0; i_bound = given.1.0; j_bound = given.1.1.0; j_len_bound = given.1.1.1 }
 
 pub overflow_add-result : goal.overflow_add-result
 overflow_add-result c =
@@ -44,8 +35,9 @@ returns-then-is_at c =
 
 pub push_from-requires : goal.push_from-requires
 push_from-requires c =
-    let given = one-pushes c.requires c.handle_at-handle.ensures c.place_from-i.ensures c.bring.ensures
-    (sym c.is_at.ensures ∙ c.if-is_at.false) in record { stands = given.0; base_bound = given.1.0; most_bound = given.1.1.0; stands_2 = given.1.1.1.0; i_bound = given.1.1.1.1 }
+    let pushes = one-pushes c.requires c.handle_at-handle.ensures c.place_from-i.ensures c.bring.ensures
+    (sym c.is_at.ensures ∙ c.if-is_at.false) in
+    (omega arith, (omega arith, pushes))
 
 pub returns : goal.returns
 returns c =
