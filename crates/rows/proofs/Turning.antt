@@ -1,5 +1,6 @@
 -- What a row operation leaves in the room. It changes the live rows and the next handle, which stand in front of all other tables, and then
 -- what was done since the last joining, which stands behind them: so that is joined as it was, and what stands between stays.
+use Rattle.std.specs.Prelude.{Option, Some, Ok, Err}
 use mathlib.Core.Path.{◌≡◌, sym, ◌∙◌}
 use mathlib.Core.List.{List, [], ◌∷◌, ◌++◌}
 use Prim.Native.Nat.{ℕ, suc, ◌+◌, ◌≤◌, ◌<◌}
@@ -9,8 +10,6 @@ use borrow.Author.Tests.{lt-ltb, le-ltb}
 use lib.ListN.{get_or, set}
 use Rattle.words.specs.Words.{low32_at}
 use Rattle.slots.specs.declared.Slot.{Slot}
-use Rattle.slots.specs.declared.Found.{Found}
-use Rattle.slots.specs.declared.Found.TheVariants.{At}
 use Rattle.slots.specs.Slots.{table_at, table_bytes, Frame, Stands, Holds, blank, remove_at, find_in}
 use Rattle.slots.proofs.Frames.{frame-wider, frame-join, word-kept-below, PutWord}
 use Rattle.slots.proofs.Tables.{table-length, table-kept-below, table-kept-above, stands-kept-above}
@@ -19,8 +18,7 @@ use Rattle.room.specs.Room.{NEXT, LIVE, INSERTED, STRETCH, ROWS, ENTRIES, Laid}
 use Rattle.room.specs.Joins.{as_effect, join_slots, Takes, Joinable}
 use Rattle.room.specs.Turned.{Turned}
 use Rattle.room.proofs.Kept.{laid-front, laid-behind}
-use Rattle.rows.specs.declared.Looked.TheVariants.{Made}
-use Rattle.rows.specs.declared.Space.TheVariants.{Enough, Full, UsedUp}
+use Rattle.rows.specs.declared.Reason.TheVariants.{Full, HandlesUsedUp}
 use Rattle.rows.specs.Rows.{space_for, row_of, inserted_slot, operation_at, Inserted, CanJoin, Deleted, Updated}
 
 -- what was done since the last joining can take an operation
@@ -115,8 +113,8 @@ module _ {xs ys zs : List ℕ} {new : Slot} (h table : ℕ) (e : Slot) (is : h �
 
 -- ---- A delete and an update: of the row that was found
 
-module _ (xs : List ℕ) {r : Found} (h i : ℕ) (asked : r ≡ find_in h (table_at xs LIVE)) (at : r ≡ At i) where
-  found_at : find_in h (table_at xs LIVE) ≡ At i
+module _ (xs : List ℕ) {r : Option ℕ} (h i : ℕ) (asked : r ≡ find_in h (table_at xs LIVE)) (at : r ≡ Some i) where
+  found_at : find_in h (table_at xs LIVE) ≡ Some i
   found_at = sym asked ∙ at
 
   pub found_within : i < low32_at xs LIVE
@@ -136,25 +134,25 @@ module _ (xs : List ℕ) {r : Found} (h i : ℕ) (asked : r ≡ find_in h (table
     found-turned l a = front-turned l (front-held held) (rw told_is at a)
 
   pub found-deleted : {zs : List ℕ} → Turned xs zs (remove_at i (table_at xs LIVE)) (low32_at xs NEXT) (operation_at xs 2 0 i)
-      → Deleted xs zs (find_in h (table_at xs LIVE)) Made
+      → Deleted xs zs (find_in h (table_at xs LIVE)) (Ok tt)
   found-deleted t = rw found_at t
 
   pub found-updated : (mask : ℕ) (new : Slot) {zs : List ℕ}
       → Turned xs zs (set (table_at xs LIVE) i new) (low32_at xs NEXT) (operation_at xs 3 mask i)
-      → Updated xs zs mask new (find_in h (table_at xs LIVE)) Made
+      → Updated xs zs mask new (find_in h (table_at xs LIVE)) (Ok tt)
   found-updated mask new t = rw found_at t
 
 -- ---- Space
 
 module _ (live next n : ℕ) where
-  pub space-full : 64 < live + n → Full ≡ space_for live next n
+  pub space-full : 64 < live + n → Err Full ≡ space_for live next n
   unfolding space_for
   space-full h = rw (lt-ltb 64 (live + n) h)
 
-  pub space-used-up : live + n ≤ 64 → 4294967295 < next + n → UsedUp ≡ space_for live next n
+  pub space-used-up : live + n ≤ 64 → 4294967295 < next + n → Err HandlesUsedUp ≡ space_for live next n
   unfolding space_for
   space-used-up h u = rw (le-ltb 64 (live + n) h, lt-ltb 4294967295 (next + n) u)
 
-  pub space-enough : live + n ≤ 64 → next + n ≤ 4294967295 → Enough ≡ space_for live next n
+  pub space-enough : live + n ≤ 64 → next + n ≤ 4294967295 → Ok tt ≡ space_for live next n
   unfolding space_for
   space-enough h u = rw (le-ltb 64 (live + n) h, le-ltb 4294967295 (next + n) u)

@@ -5,6 +5,7 @@ use mathlib.Core.Logic.{◌≢◌}
 use mathlib.Core.List.{List, [], ◌∷◌, ◌++◌, append-nil, append_assoc, map}
 use mathlib.Core.Option.{Option, none, some}
 use Prim.Native.Nat.{ℕ, suc, ◌+◌, ◌-◌, ◌≤◌, ◌<◌}
+use native.Mathlib.Numerals.{add-one}
 use native.Mathlib.Omega.{arith}
 use borrow.Author.Tests.{ltb-true, ltb-false, eqb-true, eqb-false}
 use lib.Dec.{eqb, ltb}
@@ -135,11 +136,11 @@ module _ {f : Slot → Option Row} {base : ℕ} {l : List Slot} {x : List ℕ} w
           spare = omega (arith, total, rows-length (table_at x base), table-length x base);
         }
 
-    part_step : {y : List ℕ} {e : Slot} → i < length l → e ≡ get_or l i blank → Grown base x y (f e) → Part f base l y (suc i)
+    part_step : {y : List ℕ} {e : Slot} → i < length l → e ≡ get_or l i blank → Grown base x y (f e) → Part f base l y (i + 1)
     part_step h q g =
         record {
           stands = g.stands;
-          list = part-next h q ∙ ap (λ (r : List Row). r ++ gather f (drop (suc i) l)) (sym g.rows);
+          list = rw (add-one i) (part-next h q ∙ ap (λ (r : List Row). r ++ gather f (drop (suc i) l)) (sym g.rows));
         }
 
     part-done : length l ≤ i → rows_meant (table_at x base) ≡ gather f l
@@ -173,33 +174,28 @@ same_tables : {t u : Transition} → t.inserted_rows ≡ u.inserted_rows → t.d
     → t.old_updated ≡ u.old_updated → t ≡ u
 same_tables a b c d = λ i. record { inserted_rows = a i; deleted_rows = b i; new_updated = c i; old_updated = d i }
 
--- the loop: `left` of the n effects that wait for rule k in x0 are to be shown
-pub record Drawing (rule : Rule) (k : ℕ) (x0 x : List ℕ) (n left : ℕ) : Type 0 where
+-- the loop: the first i of the effects that wait for rule k in x0 are shown
+pub record Drawing (rule : Rule) (k : ℕ) (x0 x : List ℕ) (i : ℕ) : Type 0 where
   pub begun : Begun rule k x0
-  pub size : n ≡ low32_at x0 (wait_at k)
-  pub most : left ≤ n
   pub frame : Frame INSERTED CHOSEN x0 x
-  pub inserted : Part (inserted_of rule (live_rows x0)) INSERTED (table_at x0 (wait_at k)) x (n - left)
-  pub deleted : Part (deleted_of rule (live_rows x0)) DELETED (table_at x0 (wait_at k)) x (n - left)
-  pub new : Part (new_of rule (live_rows x0)) NEW (table_at x0 (wait_at k)) x (n - left)
-  pub old : Part (old_of rule (live_rows x0)) OLD (table_at x0 (wait_at k)) x (n - left)
+  pub inserted : Part (inserted_of rule (live_rows x0)) INSERTED (table_at x0 (wait_at k)) x i
+  pub deleted : Part (deleted_of rule (live_rows x0)) DELETED (table_at x0 (wait_at k)) x i
+  pub new : Part (new_of rule (live_rows x0)) NEW (table_at x0 (wait_at k)) x i
+  pub old : Part (old_of rule (live_rows x0)) OLD (table_at x0 (wait_at k)) x i
 
-pub draw-start : {rule : Rule} {xs x : List ℕ} (k n : ℕ) → Laid xs → k < 16 → Sorted (table_at xs LIVE) → Few (drawn_for xs k rule)
-    → AllBare xs x → n ≡ low32_at x (wait_at k) → Drawing rule k x x n n
-draw-start k n w h s few b q =
-    let none : n - n ≡ 0 = omega arith in
+pub draw-start : {rule : Rule} {xs x : List ℕ} (k : ℕ) → Laid xs → k < 16 → Sorted (table_at xs LIVE) → Few (drawn_for xs k rule)
+    → AllBare xs x → Drawing rule k x x 0
+draw-start k w h s few b =
     record {
       begun = begin k w h s few b;
-      size = q;
-      most = omega arith;
       frame = frame-refl;
-      inserted = rw none (part-start b.inserted);
-      deleted = rw none (part-start b.deleted);
-      new = rw none (part-start b.new);
-      old = rw none (part-start b.old);
+      inserted = part-start b.inserted;
+      deleted = part-start b.deleted;
+      new = part-start b.new;
+      old = part-start b.old;
     }
 
-module _ {rule : Rule} {x0 x : List ℕ} (k n left : ℕ) (d : Drawing rule k x0 x n left) where
+module _ {rule : Rule} {x0 x : List ℕ} (k i : ℕ) (d : Drawing rule k x0 x i) where
   -- at a turn
   draw-laid : Laid x
   draw-laid = laid_kept d.begun.laid d.frame d.inserted.stands d.deleted.stands d.new.stands d.old.stands
@@ -213,20 +209,19 @@ module _ {rule : Rule} {x0 x : List ℕ} (k n left : ℕ) (d : Drawing rule k x0
   pub draw-wait : Stands (wait_at k) ENTRIES x
   draw-wait = draw-laid.waits k d.begun.within
 
-  module _ (more : 0 < left) where
-    pub draw-within : n - left < low32_at x (wait_at k)
-    draw-within = omega (arith, word-kept-above d.frame (wait_at k) (omega arith), d.size, d.most)
+  module _ (more : i < low32_at x0 (wait_at k)) where
+    pub draw-within : i < low32_at x (wait_at k)
+    draw-within = omega (arith, word-kept-above d.frame (wait_at k) (omega arith))
 
-    was : slot_in x (wait_at k) (n - left) ≡ slot_in x0 (wait_at k) (n - left)
-    was = ap (λ (l : List Slot). get_or l (n - left) blank) (wait-kept d.begun.laid d.frame k d.begun.within)
+    was : slot_in x (wait_at k) i ≡ slot_in x0 (wait_at k) i
+    was = ap (λ (l : List Slot). get_or l i blank) (wait-kept d.begun.laid d.frame k d.begun.within)
 
-    inside : n - left < length (table_at x0 (wait_at k))
-    inside = omega (arith, d.size, d.most, table-length x0 (wait_at k))
+    inside : i < length (table_at x0 (wait_at k))
+    inside = omega (arith, table-length x0 (wait_at k))
 
-    pub draw-ready : RoomForAll rule (slot_in x (wait_at k) (n - left)) x
+    pub draw-ready : RoomForAll rule (slot_in x (wait_at k) i) x
     draw-ready =
         let few : Few (drawn_for x0 k rule) = d.begun.few in
-        let i : ℕ = n - left in
         record {
           inserted = rw rows_same (part_room i d.inserted inside was (rw (drawn-inserted rule k x0) at few.inserted));
           deleted = rw rows_same (part_room i d.deleted inside was (rw (drawn-deleted rule k x0) at few.deleted));
@@ -234,30 +229,27 @@ module _ {rule : Rule} {x0 x : List ℕ} (k n left : ℕ) (d : Drawing rule k x0
           old = rw rows_same (part_room i d.old inside was (rw (drawn-old rule k x0) at few.old));
         }
 
-    pub draw-step : {y : List ℕ} → Shown rule (slot_in x (wait_at k) (n - left)) x y → Drawing rule k x0 y n (left - 1)
+    pub draw-step : {y : List ℕ} → Shown rule (slot_in x (wait_at k) i) x y → Drawing rule k x0 y (i + 1)
     draw-step s =
-        let on : n - (left - 1) ≡ suc (n - left) = omega (arith, d.most) in
         record {
           begun = d.begun;
-          size = d.size;
-          most = omega (arith, d.most);
           frame = frame-trans d.frame s.frame;
-          inserted = rw on (part_step (n - left) d.inserted inside was (rw rows_same at s.inserted));
-          deleted = rw on (part_step (n - left) d.deleted inside was (rw rows_same at s.deleted));
-          new = rw on (part_step (n - left) d.new inside was (rw rows_same at s.new));
-          old = rw on (part_step (n - left) d.old inside was (rw rows_same at s.old));
+          inserted = part_step i d.inserted inside was (rw rows_same at s.inserted);
+          deleted = part_step i d.deleted inside was (rw rows_same at s.deleted);
+          new = part_step i d.new inside was (rw rows_same at s.new);
+          old = part_step i d.old inside was (rw rows_same at s.old);
         }
 
   -- nothing is left: the four tables are those of the consideration
-  draw-tables : left ≤ 0 → transition_in x ≡ drawn_for x0 k rule
+  draw-tables : low32_at x0 (wait_at k) ≤ i → transition_in x ≡ drawn_for x0 k rule
   unfolding transition_in
   draw-tables h =
-      let past : length (table_at x0 (wait_at k)) ≤ n - left = omega (arith, d.size, table-length x0 (wait_at k)) in
+      let past : length (table_at x0 (wait_at k)) ≤ i = omega (arith, table-length x0 (wait_at k)) in
       same_tables
-      (part-done (n - left) d.inserted past ∙ sym (drawn-inserted rule k x0))
-      (part-done (n - left) d.deleted past ∙ sym (drawn-deleted rule k x0))
-      (part-done (n - left) d.new past ∙ sym (drawn-new rule k x0))
-      (part-done (n - left) d.old past ∙ sym (drawn-old rule k x0))
+      (part-done i d.inserted past ∙ sym (drawn-inserted rule k x0))
+      (part-done i d.deleted past ∙ sym (drawn-deleted rule k x0))
+      (part-done i d.new past ∙ sym (drawn-new rule k x0))
+      (part-done i d.old past ∙ sym (drawn-old rule k x0))
 
 -- ---- What waited is emptied
 
@@ -302,17 +294,17 @@ module _ {x y : List ℕ} (k : ℕ) (w : Laid x) (b : k < 16) (h : Holds (wait_a
         stretch = stands-kept-above h.frame STRETCH ENTRIES w.stretch (omega arith);
       }
 
-pub draw-done : {rule : Rule} {xs x0 x y : List ℕ} (k n left : ℕ) → Laid xs → AllBare xs x0
-    → Drawing rule k x0 x n left → left ≤ 0 → Holds (wait_at k) ENTRIES x y [] → Drew xs y k rule
+pub draw-done : {rule : Rule} {xs x0 x y : List ℕ} (k i : ℕ) → Laid xs → AllBare xs x0
+    → Drawing rule k x0 x i → low32_at x0 (wait_at k) ≤ i → Holds (wait_at k) ENTRIES x y [] → Drew xs y k rule
 unfolding table_bytes
-draw-done {rule} {xs} {x0} {x} {y} k n left w e d z h =
+draw-done {rule} {xs} {x0} {x} {y} k i w e d z h =
     let b : k < 16 = d.begun.within in
     let f : Frame INSERTED CHOSEN xs x = frame-trans e.frame d.frame in
     let g : Frame INSERTED STRETCH xs y = frame-join f h.frame (omega arith) (omega arith) (omega arith) (omega arith) in
-    let wx : Laid x = draw-laid k n left d in
+    let wx : Laid x = draw-laid k i d in
     record {
       laid = laid-after k wx b h;
-      tables = tables-kept k wx b h ∙ draw-tables k n left d z ∙ drawn-kept w e.frame k rule b;
+      tables = tables-kept k wx b h ∙ draw-tables k i d z ∙ drawn-kept w e.frame k rule b;
       emptied = h.list;
       others = λ j m q. others-kept k wx b h j m q ∙ wait-kept w f j m;
       stretch = table-kept-above g STRETCH ENTRIES w.stretch (omega arith);

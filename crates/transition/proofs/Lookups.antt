@@ -1,5 +1,6 @@
 -- The live row that a rule is shown for a handle is that of the slot that is found, where it is the rule's own, and there is none where
 -- none is found. The live rows stay where only what is behind them is written.
+use Rattle.std.specs.Prelude.{Some, None}
 use mathlib.Core.Path.{◌≡◌, ap}
 use mathlib.Core.List.{List}
 use mathlib.Core.Option.{none}
@@ -9,7 +10,6 @@ use lib.ListN.{get_or}
 use Rattle.meaning.specs.Covers.{Rule}
 use Rattle.meaning.specs.Processing.TransitionTables.{own_row, live_row}
 use Rattle.words.specs.Words.{low32_at}
-use Rattle.slots.specs.declared.Found.TheVariants.{At, Nothing}
 use Rattle.slots.specs.Slots.{table_at, table_bytes, Frame, Stands, blank, find_in, Sorted}
 use Rattle.slots.proofs.Tables.{table-length, table-kept-below, stands-kept-below}
 use Rattle.slots.proofs.Order.{find_at}
@@ -17,16 +17,16 @@ use Rattle.room.specs.Room.{LIVE, INSERTED, ROWS, row_meant, rows_meant, live_ro
 use Rattle.room.proofs.Live.{row_at-found, row_at-nowhere}
 use Rattle.transition.specs.Shown.{LiveRises}
 
-pub live_below : (xs : List ℕ) (h : ℕ) {i : ℕ} → find_in h (table_at xs LIVE) ≡ At i → i < low32_at xs LIVE
+pub live_below : (xs : List ℕ) (h : ℕ) {i : ℕ} → find_in h (table_at xs LIVE) ≡ Some i → i < low32_at xs LIVE
 live_below xs h f = omega (arith, (find_at h (table_at xs LIVE) f).0, table-length xs LIVE)
 
 module _ (rule : Rule) (xs : List ℕ) (h : ℕ) (s : Sorted (table_at xs LIVE)) where
-  pub live-found : {i : ℕ} → find_in h (table_at xs LIVE) ≡ At i
+  pub live-found : {i : ℕ} → find_in h (table_at xs LIVE) ≡ Some i
       → live_row rule (live_rows xs) h ≡ own_row rule (row_meant (get_or (table_at xs LIVE) i blank))
   unfolding live_row live_rows
   live-found f = rw (row_at-found h (table_at xs LIVE) s f)
 
-  pub live-nowhere : find_in h (table_at xs LIVE) ≡ Nothing → live_row rule (live_rows xs) h ≡ none
+  pub live-nowhere : find_in h (table_at xs LIVE) ≡ None → live_row rule (live_rows xs) h ≡ none
   unfolding live_row live_rows
   live-nowhere f = rw (row_at-nowhere h (table_at xs LIVE) s f)
 

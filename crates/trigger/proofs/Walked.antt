@@ -1,77 +1,66 @@
 -- The walk through the rules in total order: those that were passed are not triggered, so the first triggered rule is the first of those
 -- that are left.
-use mathlib.Core.Path.{◌≡◌, refl, sym, ap, ◌∙◌}
+use Rattle.std.specs.Prelude.{Option, Some, None}
+use Rattle.std.proofs.lemmas.List.{drop_more}
+use mathlib.Core.Path.{◌≡◌, sym, ◌∙◌}
 use mathlib.Core.Bool.{Bool, true, false}
 use mathlib.Core.List.{List, [], ◌∷◌}
-use Prim.Native.Nat.{ℕ, zero, suc, ◌-◌, ◌≤◌, ◌<◌}
-use native.Mathlib.Nat.{sub_self}
+use Prim.Native.Nat.{ℕ, ◌+◌, ◌≤◌, ◌<◌}
 use native.Mathlib.Omega.{arith}
-use lib.ListN.{length, get_or, take, drop}
-use lib.Seq.{drop-cons}
+use lib.ListN.{length, get_or, take, drop, length-take, drop_of_length-le}
+use lib.Seq.{take-nil, get_or-take}
 use Rattle.meaning.specs.Base.{first_with}
 use Rattle.meaning.specs.Processing.{State, triggered, first_triggered}
+use Rattle.words.specs.Words.{option_as}
 use Rattle.plan.specs.declared.Plan.{Plan}
 use Rattle.plan.specs.Plans.{rules_in}
 use Rattle.room.specs.Represents.{Settled}
-use Rattle.trigger.specs.declared.Next.TheVariants as next
-use Rattle.trigger.specs.Triggers.{next_meant, order_in, Numbers, Triggers, TriggersFirst}
+use Rattle.trigger.specs.Triggers.{next_meant, numbers_in, order_in, Numbers, Triggers, TriggersFirst}
 
--- the numbers still to be asked for, `left` of the first n
-abbrev pub ahead : List ℕ → ℕ → ℕ → List ℕ
-ahead l n left = take left (drop (n - left) l)
+-- where there is no order, no rule is triggered
+pub walk-unordered : {xs s : List ℕ} {plan : Plan} → plan.order ≡ None → TriggersFirst xs s plan None
+unfolding first_triggered next_meant option_as order_in numbers_in
+walk-unordered {plan = plan} none = record { is = λ state rep. rw (none, take-nil plan.count) }
 
--- the first of them, and the others
-ahead-first : (l : List ℕ) (n left k : ℕ) → 0 < left → left ≤ n → n ≤ length l → k ≡ get_or l (n - left) 0
-    → ahead l n left ≡ k ∷ ahead l n (left - 1)
-ahead-first l n zero k more high long read = absurd (omega arith)
-ahead-first l n (suc m) k more high long read =
-    let after : suc (n - suc m) ≡ n - (suc m - 1) = omega arith in
-    let less : m ≡ suc m - 1 = omega arith in
-    ap (take (suc m)) (drop-cons l (n - suc m) 0 (omega arith)) ∙ rw (← read, after, ← less)
+-- a number in the order is that of a rule
+pub walk-below : {plan : Plan} {rules : List ℕ} (i k : ℕ) → plan.order ≡ Some rules → Numbers plan → i < length (take plan.count rules)
+    → k ≡ get_or (take plan.count rules) i 0 → k < plan.count
+unfolding numbers_in
+walk-below {plan} {rules} i k ordered numbers more read =
+    let low : i < plan.count = omega (arith, length-take plan.count rules) in
+    rw (read, get_or-take plan.count rules i 0 low) (rw ordered at (numbers.rule i low))
 
-ahead_none : (l : List ℕ) (n left : ℕ) → left ≤ 0 → ahead l n left ≡ []
-ahead_none l n zero h = refl
-ahead_none l n (suc m) h = absurd (omega arith)
-
--- before a turn with `left` of the plan's n rules left
-pub record Walked (xs s : List ℕ) (plan : Plan) (n left : ℕ) : Type 0 where
-  pub high : left ≤ n
-  pub long : n ≤ length plan.order.rules
+-- before a turn with the first i of the rules in an order passed
+pub record Walked (xs s : List ℕ) (plan : Plan) (order : List ℕ) (i : ℕ) : Type 0 where
   pub rest : (state : State) → Settled xs plan.tables state
       → first_triggered (rules_in s plan.count) (order_in plan) state
-      ≡ first_with (triggered (rules_in s plan.count) state) (ahead plan.order.rules n left)
+      ≡ first_with (triggered (rules_in s plan.count) state) (drop i order)
 
-pub walk_start : (xs s : List ℕ) (plan : Plan) → plan.count ≤ length plan.order.rules
-    → Walked xs s plan plan.count plan.count
-unfolding first_triggered order_in
-walk_start xs s plan long = record { high = omega arith; long = long; rest = λ state rep. rw (sub_self plan.count) }
+pub walk_start : {xs s : List ℕ} {plan : Plan} {rules : List ℕ} → plan.order ≡ Some rules
+    → Walked xs s plan (take plan.count rules) 0
+unfolding first_triggered order_in numbers_in
+walk_start ordered = record { rest = λ state rep. rw ordered }
 
-module _ {xs s : List ℕ} {plan : Plan} {n left : ℕ} (w : Walked xs s plan n left) where
-  module _ (more : 0 < left) (k : ℕ) (read : k ≡ get_or plan.order.rules (n - left) 0) where
-    first : ahead plan.order.rules n left ≡ k ∷ ahead plan.order.rules n (left - 1)
-    first = ahead-first plan.order.rules n left k more w.high w.long read
+module _ {xs s : List ℕ} {plan : Plan} {order : List ℕ} {i : ℕ} (w : Walked xs s plan order i) where
+  module _ (more : i < length order) (k : ℕ) (read : k ≡ get_or order i 0) where
+    first : drop i order ≡ k ∷ drop (i + 1) order
+    first = rw read (drop_more order i 0 more)
 
-    -- the number that is read is that of a rule
-    pub walk-below : n ≡ plan.count → Numbers plan → k < plan.count
-    walk-below all numbers = rw read (numbers.rule (n - left) (omega (arith, w.high)))
-
-    pub walk-yes : {r : Bool} → Triggers xs s plan k r → r ≡ true → TriggersFirst xs s plan (next.Rule k)
-    unfolding next_meant
+    pub walk-yes : {r : Bool} → Triggers xs s plan k r → r ≡ true → TriggersFirst xs s plan (Some k)
+    unfolding next_meant option_as
     walk-yes t on = record {
       is = λ state rep.
           let here : triggered (rules_in s plan.count) state k ≡ true = sym (t.is state rep) ∙ on in
           sym (w.rest state rep ∙ rw (first, here));
     }
 
-    pub walk_no : {r : Bool} → Triggers xs s plan k r → r ≡ false → Walked xs s plan n (left - 1)
+    pub walk_no : {r : Bool} → Triggers xs s plan k r → r ≡ false → Walked xs s plan order (i + 1)
     walk_no t off = record {
-      high = omega (arith, w.high);
-      long = w.long;
       rest = λ state rep.
           let here : triggered (rules_in s plan.count) state k ≡ false = sym (t.is state rep) ∙ off in
           w.rest state rep ∙ rw (first, here);
     }
 
-  pub walk-done : left ≤ 0 → TriggersFirst xs s plan next.Quiet
-  unfolding next_meant
-  walk-done h = record { is = λ state rep. sym (w.rest state rep ∙ rw (ahead_none plan.order.rules n left h)) }
+  pub walk-done : length order ≤ i → TriggersFirst xs s plan None
+  unfolding next_meant option_as
+  walk-done h = record { is = λ state rep. sym (w.rest state rep ∙ rw (drop_of_length-le order h)) }

@@ -9,11 +9,7 @@ use Rattle.rows.proofs.insert_row.Goals as goal
 
 pub push-requires : goal.push-requires
 push-requires c =
-    record {
-      stands = c.requires.joinable.laid.live;
-      base_bound = omega (arith, c.requires.room_len_bound, table-length c.args.room.now LIVE);
-      most_bound = omega arith;
-    }
+    (omega arith, (c.requires.joinable.laid.live, (omega (arith, c.requires.room_len_bound, table-length c.args.room.now LIVE), omega arith)))
 
 pub join-requires : goal.join-requires
 join-requires c =

@@ -5,31 +5,25 @@ use Rattle.slots.specs.Slots.{table_bytes}
 use Rattle.transition.proofs.Drawing.{draw-start, draw-live, draw-wait, draw-within, draw-ready, draw-step, draw-done}
 use Rattle.transition.proofs.draw.Goals as goal
 
-pub empty_tables-requires : goal.empty_tables-requires
-empty_tables-requires c = omega arith
-
-pub size-n-requires : goal.size-n-requires
-size-n-requires c = omega arith
-
-pub loop-left-init : goal.loop-left-init
-loop-left-init c =
-    draw-start _ _ c.requires.laid c.requires.k_bound c.requires.sorted c.requires.few c.empty_tables.ensures c.size-n.ensures
-
-pub overflow_sub-n : goal.overflow_sub-n
-overflow_sub-n c = omega (arith, c.loop-left.invariant.most)
+pub loop-i-init : goal.loop-i-init
+loop-i-init c =
+    draw-start _ c.requires.laid c.requires.k_bound c.requires.sorted c.requires.few c.empty_tables.ensures
 
 pub draw_one-near-requires : goal.draw_one-near-requires
 draw_one-near-requires c =
-    record {
-      stands = draw-wait _ _ _ c.loop-left.invariant;
-      i_bound = draw-within _ _ _ c.loop-left.invariant c.loop-left-test.true;
-      live_rises = draw-live _ _ _ c.loop-left.invariant;
-      room_for_all = draw-ready _ _ _ c.loop-left.invariant c.loop-left-test.true;
-    }
+    let more = rw c.wait-wait.ensures at c.size-i-end.ensures in
+    rw c.wait-wait.ensures
+    (record {
+      stands = draw-wait _ _ c.loop-i.invariant;
+      i_bound = draw-within _ _ c.loop-i.invariant (omega (arith, more));
+      live_rises = draw-live _ _ c.loop-i.invariant;
+      room_for_all = draw-ready _ _ c.loop-i.invariant (omega (arith, more));
+    })
 
-pub loop-left-preserved : goal.loop-left-preserved
-loop-left-preserved c =
-    draw-step _ _ _ c.loop-left.invariant c.loop-left-test.true c.draw_one-near.ensures
+pub loop-i-preserved : goal.loop-i-preserved
+loop-i-preserved c =
+    let more = rw c.wait-wait.ensures at c.size-i-end.ensures in
+    draw-step _ _ c.loop-i.invariant (omega (arith, more)) (rw c.wait-wait.ensures at c.draw_one-near.ensures)
 
 pub empty-requires : goal.empty-requires
 unfolding table_bytes
@@ -37,5 +31,6 @@ empty-requires c = omega arith
 
 pub returns : goal.returns
 returns c =
-    draw-done _ _ _ c.requires.laid c.empty_tables.ensures c.loop-left.invariant
-    c.loop-left-test.false c.empty.ensures
+    let more = rw c.wait-wait.ensures at c.size-i-end.ensures in
+    draw-done _ _ c.requires.laid c.empty_tables.ensures c.loop-i.invariant
+    (omega (arith, more)) (rw c.wait-wait.ensures at c.empty.ensures)

@@ -4,8 +4,5 @@ use Rattle.room.specs.Room.{watch_rule}
 use Rattle.transition.proofs.Drawing.{Drawing}
 use Rattle.transition.proofs.draw.Given as goal
 
-abbrev pub invariant-loop-left : goal.invariant-loop-left
-invariant-loop-left l = Drawing (watch_rule l.rule) l.k l.initial.room l.room l.n l.left
-
-abbrev pub decreases-loop-left : goal.decreases-loop-left
-decreases-loop-left l = l.left
+abbrev pub invariant-loop-i : goal.invariant-loop-i
+invariant-loop-i l = Drawing (watch_rule l.rule) l.k l.initial.room l.room l.i

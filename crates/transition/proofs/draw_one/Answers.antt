@@ -9,8 +9,8 @@ use Rattle.transition.proofs.draw_one.Goals as goal
 
 pub draw_live-requires : goal.draw_live-requires
 draw_live-requires c =
-    let tells = tells-inserted (watch_rule c.args.rule) (live_rows c.args.room.now) (slot_in c.args.room.now c.args.wait c.args.i)
-    (sym c.kind_at-kind.ensures ∙ c.in-1.is) in
+    let tells = tells-inserted (watch_rule c.args.rule) (live_rows c.args.room.now) (slot_in c.args.room.now c.args.wait.base c.args.i)
+    (sym c.kind_at.ensures ∙ c.in-1.is) in
     record {
       live_rises = c.requires.live_rises;
       room_for = rw c.handle_at-handle.ensures (rw tells.inserted at c.requires.room_for_all.inserted);
@@ -18,20 +18,16 @@ draw_live-requires c =
 
 pub draw_held-requires : goal.draw_held-requires
 draw_held-requires c =
-    let tells = tells-deleted (watch_rule c.args.rule) (live_rows c.args.room.now) (slot_in c.args.room.now c.args.wait c.args.i)
-    (sym c.kind_at-kind.ensures ∙ c.in-2.is) in
-    record {
-      stands = c.requires.stands;
-      i_bound = c.requires.i_bound;
-      room_for = rw tells.deleted at c.requires.room_for_all.deleted;
-    }
+    let tells = tells-deleted (watch_rule c.args.rule) (live_rows c.args.room.now) (slot_in c.args.room.now c.args.wait.base c.args.i)
+    (sym c.kind_at.ensures ∙ c.in-2.is) in
+    (omega arith, (c.requires.stands, (c.requires.i_bound, rw tells.deleted at c.requires.room_for_all.deleted)))
 
 pub draw_updated-requires : goal.draw_updated-requires
 draw_updated-requires c =
     record {
       stands = c.requires.stands;
       i_bound = c.requires.i_bound;
-      i_value = sym c.kind_at-kind.ensures ∙ c.in-3.is;
+      i_value = sym c.kind_at.ensures ∙ c.in-3.is;
       live_rises = c.requires.live_rises;
       room_for_all = c.requires.room_for_all;
     }
@@ -39,13 +35,13 @@ draw_updated-requires c =
 pub returns-in-1 : goal.returns-in-1
 returns-in-1 c =
     shown-inserted c.requires.room_for_all
-    (tells-inserted _ _ _ (sym c.kind_at-kind.ensures ∙ c.in-1.is))
+    (tells-inserted _ _ _ (sym c.kind_at.ensures ∙ c.in-1.is))
     (rw c.handle_at-handle.ensures at c.draw_live.ensures)
 
 pub returns-in-2 : goal.returns-in-2
 returns-in-2 c =
     shown-deleted c.requires.room_for_all
-    (tells-deleted _ _ _ (sym c.kind_at-kind.ensures ∙ c.in-2.is)) c.draw_held.ensures
+    (tells-deleted _ _ _ (sym c.kind_at.ensures ∙ c.in-2.is)) c.draw_held.ensures
 
 pub returns-in-3 : goal.returns-in-3
 returns-in-3 c = c.draw_updated.ensures

@@ -1,32 +1,26 @@
 -- `trigger::first_triggered` meets its contract: before each turn no rule that was passed is triggered.
-use mathlib.Core.Path.{◌≡◌, refl}
-use lib.ListN.{length}
-use borrow.Author.Rules.{rules}
-use native.Mathlib.Omega.{arith}
-use Rattle.trigger.proofs.Walked.{walk_start, walk-yes, walk_no, walk-below, walk-done}
+use Rattle.trigger.proofs.Walked.{walk-unordered, walk-below, walk_start, walk-yes, walk_no, walk-done}
 use Rattle.trigger.proofs.first_triggered.Goals as goal
 
-pub loop-left-init : goal.loop-left-init
-loop-left-init c =
-    let long : length c.args.plan.order.rules ≡ 16 = search (rules, c.well_formed.1.1.0.1.1.1.1.1.1.1.0) in
-    walk_start _ _ _ (omega (arith, long, c.requires))
+pub returns-in_err-rules : goal.returns-in_err-rules
+returns-in_err-rules c = rw c.from_residual.ensures (walk-unordered c.in_err-rules.was)
 
-pub is_triggered-requires : goal.is_triggered-requires
-is_triggered-requires c =
-    let below = walk-below c.loop-left.invariant c.loop-left-test.true _ c.wide-k.ensures.0 refl c.requires.numbers in
-    record {
-      laid = c.requires.laid;
-      count_bound = (c.requires.count_bound, below);
-      planned = c.requires.planned;
-    }
+pub loop-number-init : goal.loop-number-init
+loop-number-init c = walk_start c.in_ok-rules.was
+
+pub is_triggered-requires-clause-count_bound : goal.is_triggered-requires-clause-count_bound
+is_triggered-requires-clause-count_bound c = (
+  c.requires.count_bound,
+  walk-below _ _ c.in_ok-rules.was c.requires.numbers c.loop-number-test.true c.wide-k.ensures.0,
+)
 
 pub returns-then-is_triggered : goal.returns-then-is_triggered
 returns-then-is_triggered c =
-    walk-yes c.loop-left.invariant c.loop-left-test.true _ c.wide-k.ensures.0 c.is_triggered.ensures c.if-is_triggered.true
+    walk-yes c.loop-number.invariant c.loop-number-test.true _ c.wide-k.ensures.0 c.is_triggered.ensures c.if-is_triggered.true
 
-pub loop-left-preserved : goal.loop-left-preserved
-loop-left-preserved c =
-    walk_no c.loop-left.invariant c.loop-left-test.true _ c.wide-k.ensures.0 c.is_triggered.ensures c.if-is_triggered.false
+pub loop-number-preserved : goal.loop-number-preserved
+loop-number-preserved c =
+    walk_no c.loop-number.invariant c.loop-number-test.true _ c.wide-k.ensures.0 c.is_triggered.ensures c.if-is_triggered.false
 
 pub returns : goal.returns
-returns c = walk-done c.loop-left.invariant c.loop-left-test.false
+returns c = walk-done c.loop-number.invariant c.loop-number-test.false
