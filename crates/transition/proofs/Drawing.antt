@@ -1,16 +1,15 @@
 -- The loop of `draw`, of the slots alone: what the four tables show so far, and then what the effects that are left show there, is what
 -- all of them show. So each table is at every turn no longer than at the end, and has room for one row more.
+use Rattle.std.proofs.lemmas.List.{drop_more}
 use mathlib.Core.Path.{◌≡◌, refl, sym, ap, ◌∙◌}
 use mathlib.Core.Logic.{◌≢◌}
 use mathlib.Core.List.{List, [], ◌∷◌, ◌++◌, append-nil, append_assoc, map}
 use mathlib.Core.Option.{Option, none, some}
-use Prim.Native.Nat.{ℕ, suc, ◌+◌, ◌-◌, ◌≤◌, ◌<◌}
-use native.Mathlib.Numerals.{add-one}
+use Prim.Native.Nat.{ℕ, ◌+◌, ◌≤◌, ◌<◌}
 use native.Mathlib.Omega.{arith}
 use borrow.Author.Tests.{ltb-true, ltb-false, eqb-true, eqb-false}
 use lib.Dec.{eqb, ltb}
 use lib.ListN.{length, get_or, drop, length-append, drop_of_length-le}
-use lib.Seq.{drop-cons}
 use Rattle.meaning.specs.Base.{before, gather}
 use Rattle.meaning.specs.Covers.{Row, Rule}
 use Rattle.meaning.specs.Processing.TransitionTables.{Transition, transition, inserted_row, deleted_row, new_row, old_row}
@@ -118,14 +117,14 @@ module _ {f : Slot → Option Row} {base : ℕ} {l : List Slot} {x : List ℕ} w
   module _ (i : ℕ) (p : Part f base l x i) where
     -- the next effect, and those after it
     part-next : {e : Slot} → i < length l → e ≡ get_or l i blank
-        → gather f l ≡ (rows_meant (table_at x base) ++ before (f e) []) ++ gather f (drop (suc i) l)
+        → gather f l ≡ (rows_meant (table_at x base) ++ before (f e) []) ++ gather f (drop (i + 1) l)
     part-next {e} h q =
         p.list
         ∙ rw (
-          drop-cons l i blank h,
+          drop_more l i blank h,
           ← q,
-          before_more (f e) (gather f (drop (suc i) l)),
-          ← append_assoc (rows_meant (table_at x base)) (before (f e) []) (gather f (drop (suc i) l)),
+          before_more (f e) (gather f (drop (i + 1) l)),
+          ← append_assoc (rows_meant (table_at x base)) (before (f e) []) (gather f (drop (i + 1) l)),
         )
 
     part_room : {e : Slot} → i < length l → e ≡ get_or l i blank → length (gather f l) ≤ ROWS → RoomFor base x (f e)
@@ -140,7 +139,7 @@ module _ {f : Slot → Option Row} {base : ℕ} {l : List Slot} {x : List ℕ} w
     part_step h q g =
         record {
           stands = g.stands;
-          list = rw (add-one i) (part-next h q ∙ ap (λ (r : List Row). r ++ gather f (drop (suc i) l)) (sym g.rows));
+          list = part-next h q ∙ ap (λ (r : List Row). r ++ gather f (drop (i + 1) l)) (sym g.rows);
         }
 
     part-done : length l ≤ i → rows_meant (table_at x base) ≡ gather f l

@@ -22,16 +22,6 @@ draw_held-requires c =
     (sym c.kind_at.ensures ∙ c.in-2.is) in
     (omega arith, (c.requires.stands, (c.requires.i_bound, rw tells.deleted at c.requires.room_for_all.deleted)))
 
-pub draw_updated-requires : goal.draw_updated-requires
-draw_updated-requires c =
-    record {
-      stands = c.requires.stands;
-      i_bound = c.requires.i_bound;
-      i_value = sym c.kind_at.ensures ∙ c.in-3.is;
-      live_rises = c.requires.live_rises;
-      room_for_all = c.requires.room_for_all;
-    }
-
 pub returns-in-1 : goal.returns-in-1
 returns-in-1 c =
     shown-inserted c.requires.room_for_all
@@ -42,9 +32,6 @@ pub returns-in-2 : goal.returns-in-2
 returns-in-2 c =
     shown-deleted c.requires.room_for_all
     (tells-deleted _ _ _ (sym c.kind_at.ensures ∙ c.in-2.is)) c.draw_held.ensures
-
-pub returns-in-3 : goal.returns-in-3
-returns-in-3 c = c.draw_updated.ensures
 
 pub returns-in_default : goal.returns-in_default
 returns-in_default c =
