@@ -1,7 +1,9 @@
 -- Laws of a search over columns. A row has all that is wanted where the differences, joined bit by bit, are 0; places that repeat the first
 -- row add nothing to what some row has; and the rows of the columns are the picked rows.
+use Rattle.std.specs.Prelude.{if◌then◌else◌}
+use Rattle.std.specs.List.{list_any, range_with_len}
 use mathlib.Core.Path.{◌≡◌, refl, sym, ap, ◌∙◌}
-use mathlib.Core.Bool.{Bool, true, false, not, ◌&&◌, ◌||◌}
+use mathlib.Core.Bool.{Bool, true, false, not, ◌&&◌, ◌||◌, or-false}
 use mathlib.Core.List.{List, [], ◌∷◌, ◌++◌, map, map-append}
 use Prim.Native.Nat.{ℕ, zero, suc, ◌+◌, ◌≤◌, ◌<◌}
 use native.Mathlib.Numerals.{add-one}
@@ -11,7 +13,7 @@ use lib.Bits.{bit_or, bit_xor, or_add_and, xor_add_and, and_le_l, and_le_r, and_
 use lib.Dec.{eqb, ltb}
 use lib.ListN.{length, get_or, set, take, replicate, length-set, length-replicate}
 use lib.Seq.{take-suc, get_or-set_same, get_or-set_other}
-use Rattle.meaning.specs.Base.{any}
+use Rattle.meaning.specs.Base.{any, select}
 use Rattle.meaning.specs.Values.{agree}
 use Rattle.meaning.specs.Processing.Queries.{cell}
 use Rattle.words.specs.Words.{Bytes}
@@ -25,7 +27,7 @@ use Rattle.room.specs.Room.{row_meant}
 use Rattle.query.specs.declared.Pairs.{Pairs}
 use Rattle.query.specs.declared.Picked.{Picked}
 use Rattle.query.specs.declared.Wanted.{Wanted}
-use Rattle.query.specs.Picks.{slots_of, Within, agree_on_four}
+use Rattle.query.specs.Picks.{slots_of, Within, PicksOut, agree_on_four}
 use Rattle.query.specs.Columns.{Padded, ColumnOf, ColumnsOf, wanted_of, has_at, some_below, agrees_with, kept_by}
 use Rattle.room.proofs.Cells.{value_cell}
 
@@ -109,6 +111,22 @@ module _ (p : ℕ → Bool) where
       split (p 0)
       (λ t. rw (here, t) (sym (below-found 0 n some t)))
       (λ f. rw (here, f) before))
+
+  -- over numbers, one after another
+  numbers-from : (n a m : ℕ) → a + n ≡ m → (list_any p (range_with_len a n) || some_below p a) ≡ some_below p m
+  numbers-from zero a m e = let same : a ≡ m = omega arith in rw same
+  numbers-from (suc n) a m e =
+      turn (p a) (list_any p (range_with_len (a + 1) n)) (some_below p a)
+      ∙ rw (← below_more a) (numbers-from n (a + 1) m (omega arith))
+    where
+      turn : (x y z : Bool) → ((x || y) || z) ≡ (y || (x || z))
+      turn true true z = refl
+      turn true false z = refl
+      turn false y z = refl
+
+  pub any-below : (n : ℕ) → list_any p (range_with_len 0 n) ≡ some_below p n
+  unfolding some_below
+  any-below n = sym (or-false (list_any p (range_with_len 0 n))) ∙ numbers-from n 0 n (omega arith)
 
 -- of 64 rows, where the places from n on have the first
 pub some-padded : (s0 s1 s2 s3 : List ℕ) (w : Wanted) (n : ℕ) → 0 < n → n ≤ 64
@@ -240,31 +258,48 @@ agree-words {e} {x} f g c d =
     rw (← value_cell e c, ← value_cell x d)
     (eqb_comm (slot_value x d) (slot_value e c) ∙ sym (signed-agree (slot_value e c) (slot_value x d) (value-fits f c) (value-fits g d)))
 
-module _ (xs : List ℕ) (bytes : Bytes xs) (base i from : ℕ) (p : Pairs) (rows : Picked) {s0 s1 s2 s3 : List ℕ}
-    (columns : ColumnsOf (table_at xs from) rows p s0 s1 s2 s3) where
-  has-agrees : (j : ℕ) → j < rows.count
+select-same : {A : Type 0} (p q : A → Bool) (g : ℕ → A) → ((i : ℕ) → p (g i) ≡ q (g i)) → (l : List ℕ)
+    → select p (map g l) ≡ select q (map g l)
+select-same p q g same [] = refl
+select-same {A} p q g same (i ∷ l) =
+    rw (same i) (ap (λ (r : List A). if q (g i) then g i ∷ r else r) (select-same p q g same l))
+
+module _ (xs : List ℕ) (bytes : Bytes xs) (base from : ℕ) (p : Pairs) (others : Picked) {s0 s1 s2 s3 : List ℕ}
+    (columns : ColumnsOf (table_at xs from) others p s0 s1 s2 s3) where
+  has-agrees : (i j : ℕ) → j < others.count
       → has_at s0 s1 s2 s3 (wanted_of p (get_or (table_at xs base) i blank)) j
-      ≡ agree_on_four p (row_meant (get_or (table_at xs base) i blank)) (row_meant (get_or (table_at xs from) (get_or rows.places j 0) blank))
+      ≡ agree_on_four p (row_meant (get_or (table_at xs base) i blank)) (row_meant (get_or (table_at xs from) (get_or others.places j 0) blank))
   unfolding has_at wanted_of agree_on_four
-  has-agrees j h =
+  has-agrees i j h =
       let f = table_fits_lem xs bytes base i in
-      let g = table_fits_lem xs bytes from (get_or rows.places j 0) in
+      let g = table_fits_lem xs bytes from (get_or others.places j 0) in
       rw (columns.first.held j h, columns.second.held j h, columns.third.held j h, columns.fourth.held j h)
       (rw (agree-words f g p.own0 p.other0, agree-words f g p.own1 p.other1, agree-words f g p.own2 p.other2)
       (rw (agree-words f g p.own3 p.other3)))
 
-  some-has : some_below (has_at s0 s1 s2 s3 (wanted_of p (get_or (table_at xs base) i blank))) rows.count
-      ≡ agrees_with p (slots_of (table_at xs from) rows) (get_or (table_at xs base) i blank)
+  some-has : (i : ℕ) → some_below (has_at s0 s1 s2 s3 (wanted_of p (get_or (table_at xs base) i blank))) others.count
+      ≡ agrees_with p (slots_of (table_at xs from) others) (get_or (table_at xs base) i blank)
   unfolding agrees_with slots_of
-  some-has =
+  some-has i =
       some-any _ (λ x. agree_on_four p (row_meant (get_or (table_at xs base) i blank)) (row_meant x)) (λ k. get_or (table_at xs from) k blank)
-      rows.places rows.count columns.first.placed has-agrees
+      others.places others.count columns.first.placed (has-agrees i)
 
-  -- as it was asked
-  pub found-agrees : {w : Wanted} {found : Bool} → w ≡ wanted_of p (get_or (table_at xs base) i blank)
-      → found ≡ some_below (has_at s0 s1 s2 s3 w) rows.count
-      → found ≡ agrees_with p (slots_of (table_at xs from) rows) (get_or (table_at xs base) i blank)
-  found-agrees same is = is ∙ rw same some-has
+  -- of picked rows, those of which a match with the rows of the columns holds, or its opposite
+  pub columns-agree : (negated : Bool) (rows : Picked) {l : Picked}
+      → PicksOut (table_at xs base)
+      (select (λ e. kept_by negated (some_below (has_at s0 s1 s2 s3 (wanted_of p e)) others.count)) (slots_of (table_at xs base) rows)) l
+      → PicksOut (table_at xs base)
+      (select (λ e. kept_by negated (agrees_with p (slots_of (table_at xs from) others) e)) (slots_of (table_at xs base) rows)) l
+  unfolding slots_of
+  columns-agree negated rows k =
+      record {
+        within = k.within;
+        slots =
+            k.slots
+            ∙ select-same (λ e. kept_by negated (some_below (has_at s0 s1 s2 s3 (wanted_of p e)) others.count))
+            (λ e. kept_by negated (agrees_with p (slots_of (table_at xs from) others) e)) (λ i. get_or (table_at xs base) i blank)
+            (λ i. ap (kept_by negated) (some-has i)) (take rows.count rows.places);
+      }
 
 -- a match, or its opposite
 module _ {found held : Bool} (is : found ≡ held) {negated : Bool} where

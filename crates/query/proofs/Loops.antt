@@ -20,7 +20,7 @@ use Rattle.query.specs.declared.Picked.{Picked}
 use Rattle.query.specs.Chosen.{base_of, Chose}
 use Rattle.query.specs.Picks.{slots_of, Within, PicksOut}
 use Rattle.query.proofs.Laws.{wanted, chosen-rows}
-use Rattle.query.proofs.Kept.{source-below, base-stands, laid_kept}
+use Rattle.query.proofs.Keeping.{source-below, base-stands, laid_kept}
 use Rattle.query.proofs.Narrowing.{slots_at, slots-more}
 
 -- ---- The choice: the rows chosen so far are those at the first j places

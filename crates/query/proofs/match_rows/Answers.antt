@@ -3,22 +3,22 @@
 use native.Mathlib.Omega.{arith}
 use Rattle.slots.specs.Slots.{table_at}
 use Rattle.query.specs.Picks.{slots_of}
-use Rattle.query.proofs.Kept.{base-stands}
+use Rattle.query.proofs.Keeping.{base-stands}
 use Rattle.query.proofs.Matches.{match-kept, none-every, none_any}
 use Rattle.query.proofs.match_rows.Goals as goal
 
 pub shown_rows-others-requires : goal.shown_rows-others-requires
 shown_rows-others-requires c =
-    base-stands c.requires.laid c.args.source c.base_of-from.ensures
+    base-stands c.requires.laid c.args.source c.table_of-from.ensures
 
 pub returns-then-negated : goal.returns-then-negated
 returns-then-negated c =
-    none-every _ _ c.base_of-from.ensures c.shown_rows-others.ensures c.if-others-eq0.true _ _ _ _ c.requires.within
+    none-every _ _ c.table_of-from.ensures c.shown_rows-others.ensures c.if-others-eq0.true _ _ _ _ c.requires.within
     c.if-negated.true
 
 pub returns-then-others-eq0 : goal.returns-then-others-eq0
 returns-then-others-eq0 c =
-    none_any _ _ c.base_of-from.ensures c.shown_rows-others.ensures c.if-others-eq0.true _ _ _ _ c.requires.within _
+    none_any _ _ c.table_of-from.ensures c.shown_rows-others.ensures c.if-others-eq0.true _ _ _ _ c.requires.within _
     c.if-negated.false
 
 pub pairs_at-requires : goal.pairs_at-requires
@@ -29,12 +29,12 @@ matched-requires c =
     record {
       stands = c.requires.stands;
       within = c.requires.within;
-      stands_2 = base-stands c.requires.laid c.args.source c.base_of-from.ensures;
+      stands_2 = base-stands c.requires.laid c.args.source c.table_of-from.ensures;
       within_2 = c.shown_rows-others.ensures.within;
       count_nonzero = omega (arith, c.if-others-eq0.false);
     }
 
 pub returns : goal.returns
 returns c =
-    match-kept _ _ c.base_of-from.ensures c.shown_rows-others.ensures c.pairs_at.ensures c.args.negated
-    (slots_of (table_at c.args.room.now c.args.base) c.args.rows) c.matched.ensures
+    match-kept _ _ c.table_of-from.ensures c.shown_rows-others.ensures c.pairs_at.ensures c.args.negated
+    (slots_of (table_at c.args.room.now c.args.table.base) c.args.rows) c.matched.ensures

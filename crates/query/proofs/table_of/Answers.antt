@@ -1,8 +1,8 @@
--- `query::base_of` meets its contract: the match's cases are those of the definition.
+-- `query::table_of` meets its contract: the match's cases are those of the definition.
 use borrow.Author.Tests.{lt-ltb, le-ltb, ne_eqb}
 use native.Mathlib.Omega.{arith}
 use Rattle.query.specs.Chosen.{base_of}
-use Rattle.query.proofs.base_of.Goals as goal
+use Rattle.query.proofs.table_of.Goals as goal
 
 pub returns-in-4 : goal.returns-in-4
 unfolding base_of
