@@ -285,17 +285,17 @@ module _ (xs : List ℕ) (bytes : Bytes xs) (base from : ℕ) (p : Pairs) (other
       others.places others.count columns.first.placed (has-agrees i)
 
   -- of picked rows, those of which a match with the rows of the columns holds, or its opposite
-  pub columns-agree : (negated : Bool) (rows : Picked) {l : Picked}
+  pub columns-agree : (negated : Bool) (rows : Picked) {l : Picked} {count : ℕ} → count ≡ others.count
       → PicksOut (table_at xs base)
-      (select (λ e. kept_by negated (some_below (has_at s0 s1 s2 s3 (wanted_of p e)) others.count)) (slots_of (table_at xs base) rows)) l
+      (select (λ e. kept_by negated (some_below (has_at s0 s1 s2 s3 (wanted_of p e)) count)) (slots_of (table_at xs base) rows)) l
       → PicksOut (table_at xs base)
       (select (λ e. kept_by negated (agrees_with p (slots_of (table_at xs from) others) e)) (slots_of (table_at xs base) rows)) l
   unfolding slots_of
-  columns-agree negated rows k =
+  columns-agree negated rows all k =
       record {
         within = k.within;
         slots =
-            k.slots
+            rw all at k.slots
             ∙ select-same (λ e. kept_by negated (some_below (has_at s0 s1 s2 s3 (wanted_of p e)) others.count))
             (λ e. kept_by negated (agrees_with p (slots_of (table_at xs from) others) e)) (λ i. get_or (table_at xs base) i blank)
             (λ i. ap (kept_by negated) (some-has i)) (take rows.count rows.places);

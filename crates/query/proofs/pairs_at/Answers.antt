@@ -16,15 +16,12 @@ overflow_add-here c =
     let low = first-own _ _ _ c.requires.in_bounds c.byte-own0.ensures in
     search rules
 
-pub overflow_add-here-2 : goal.overflow_add-here-2
-overflow_add-here-2 c =
-    let low = first-other _ _ _ c.requires.in_bounds c.byte-own0.ensures c.byte-other0.ensures in
-    search rules
-
 pub loop-init : goal.loop-init
 loop-init c =
-    gathering-start (first_some _ _ _ c.requires.in_bounds) c.requires.at_len_bound
-    (pair_read c.byte-own0.ensures (first-own _ _ _ c.requires.in_bounds c.byte-own0.ensures) c.byte-other0.ensures (first-other _ _ _ c.requires.in_bounds c.byte-own0.ensures c.byte-other0.ensures))
+    let next : c.args.at + 2 ≡ c.args.at + 1 + 1 = omega arith in
+    rw next
+    (    gathering-start (first_some _ _ _ c.requires.in_bounds) c.requires.at_len_bound
+    (pair_read c.byte-own0.ensures (first-own _ _ _ c.requires.in_bounds c.byte-own0.ensures) c.byte-other0.ensures (first-other _ _ _ c.requires.in_bounds c.byte-own0.ensures c.byte-other0.ensures)))
 
 pub returns-then-own-gt3 : goal.returns-then-own-gt3
 returns-then-own-gt3 c =
@@ -37,7 +34,8 @@ returns-then-other-gt3 c =
 pub loop-preserved : goal.loop-preserved
 loop-preserved c =
     let rest : c.args.n - (c.loop.counter + 1) ≡ c.args.n - c.loop.counter - 1 = omega arith in
-    rw (c.with_pair-p.ensures, rest)
+    let next : c.loop.here + 2 ≡ c.loop.here + 1 + 1 = omega arith in
+    rw (c.with_pair-p.ensures, rest, next)
     (gathering-more c.loop.invariant (omega (arith, c.loop-test.true))
     (pair_read c.byte-own.ensures c.if-own-gt3.false c.byte-other.ensures c.if-other-gt3.false))
 
