@@ -9,6 +9,7 @@ use Prim.Native.Nat.{ℕ, zero, suc, ◌+◌, ◌≤◌, ◌<◌}
 use native.Mathlib.Numerals.{add-one}
 use native.Mathlib.Omega.{arith}
 use borrow.Author.Tests.{eqb-true, eqb-false, eq-eqb, ne_eqb, ltb-true, ltb-false, lt-ltb}
+use mir.Val.{bool_byte}
 use lib.Bits.{bit_or, bit_xor, or_add_and, xor_add_and, and_le_l, and_le_r, and_self}
 use lib.Dec.{eqb, ltb}
 use lib.ListN.{length, get_or, set, take, replicate, length-set, length-replicate}
@@ -66,22 +67,12 @@ all-equal a b c d w x y z =
     regroup true true r s = refl
 
 -- the row j of four columns, by its differences from what is wanted
-module _ (s0 s1 s2 s3 : List ℕ) (w : Wanted) (j : ℕ) where
-  abbrev differs : ℕ
-  differs =
-      bit_or (bit_or (bit_or (bit_xor (get_or s0 j 0) w.v0) (bit_xor (get_or s1 j 0) w.v1)) (bit_xor (get_or s2 j 0) w.v2))
-      (bit_xor (get_or s3 j 0) w.v3)
-
-  differs_none : eqb differs 0 ≡ has_at s0 s1 s2 s3 w j
-  unfolding has_at
-  differs_none =
-      all-equal (get_or s0 j 0) (get_or s1 j 0) (get_or s2 j 0) (get_or s3 j 0) w.v0 w.v1 w.v2 w.v3
-
-  pub has_all : differs ≡ 0 → has_at s0 s1 s2 s3 w j ≡ true
-  has_all e = sym differs_none ∙ eq-eqb differs 0 e
-
-  pub has-not-all : (differs ≡ 0 → ⊥) → has_at s0 s1 s2 s3 w j ≡ false
-  has-not-all n = sym differs_none ∙ ne_eqb differs 0 n
+pub differs-none : (s0 s1 s2 s3 : List ℕ) (w : Wanted) (j : ℕ)
+    → eqb (bit_or (bit_or (bit_or (bit_xor (get_or s0 j 0) w.v0) (bit_xor (get_or s1 j 0) w.v1)) (bit_xor (get_or s2 j 0) w.v2)) (bit_xor (get_or s3 j 0) w.v3)) 0
+    ≡ has_at s0 s1 s2 s3 w j
+unfolding has_at
+differs-none s0 s1 s2 s3 w j =
+    all-equal (get_or s0 j 0) (get_or s1 j 0) (get_or s2 j 0) (get_or s3 j 0) w.v0 w.v1 w.v2 w.v3
 
 -- ---- One of the first numbers passes
 
@@ -148,19 +139,18 @@ pub counting-start : (p : ℕ → Bool) → Counting p 0 0
 unfolding some_below
 counting-start p = record { low = omega arith; most = omega arith; is = refl }
 
-module _ {p : ℕ → Bool} {hits j : ℕ} (s : Counting p hits j) (more : j < 64) where
-  pub counting-yes : p j ≡ true → Counting p (hits + 1) (j + 1)
-  counting-yes e =
-      record {
-        low = omega (arith, s.low);
-        most = omega arith;
-        is = rw (below_more p j, e) (lt-ltb 0 (hits + 1) (omega arith));
-      }
-
-  pub counting-no : p j ≡ false → Counting p (hits + 0) (j + 1)
-  counting-no e =
-      let same : hits + 0 ≡ hits = omega arith in
-      record { low = omega (arith, s.low); most = omega arith; is = rw (same, below_more p j, e) s.is }
+-- one more where the row j passes
+pub counting-more : {p : ℕ → Bool} {hits j : ℕ} → Counting p hits j → j < 64 → (b : Bool) → b ≡ p j
+    → Counting p (hits + bool_byte b) (j + 1)
+counting-more {p} {hits} {j} s more true e =
+    record {
+      low = omega (arith, s.low);
+      most = omega arith;
+      is = rw (below_more p j, ← e) (lt-ltb 0 (hits + 1) (omega arith));
+    }
+counting-more {p} {hits} {j} s more false e =
+    let same : hits + 0 ≡ hits = omega arith in
+    record { low = omega (arith, s.low); most = omega arith; is = rw (same, below_more p j, ← e) s.is }
 
 -- ---- A column, filled row by row: every place that is not filled yet has the first row's value
 

@@ -14,7 +14,7 @@ ghost use Rattle.terms.specs.Terms.{term_meant, terms_meant, query_meant};
 ghost use Rattle.room.specs.Room.{ROWS, Laid, row_meant, live_rows, transition_in};
 ghost use Rattle.query.specs.Chosen.{base_of, shows as chosen_shows, Chose};
 ghost use Rattle.query.specs.Picks.{slots_of, Within, PicksOut, AsPairs, match_holds, term_holds, FewPairs};
-ghost use Rattle.query.specs.Columns.{with_pair, ColumnOf, ColumnsOf, wanted_of, has_at, some_below, Padded, agrees_with, kept_by};
+ghost use Rattle.query.specs.Columns.{with_pair, ColumnOf, ColumnsOf, wanted_of, has_at, some_below, Padded, kept_by};
 
 use room::RowTable;
 use terms::{Query, Term};
@@ -49,6 +49,7 @@ struct Wanted {
 }
 
 // Where a source's rows stand: a table's are among the live ones.
+#[tactic(auto, unfolding(crate::specs::Chosen::base_of))]
 fn table_of(source: usize) -> RowTable
     ensures { result.base ≡ base_of source }
 {
@@ -62,6 +63,7 @@ fn table_of(source: usize) -> RowTable
 }
 
 // Whether the slot i of where a source's rows stand is one of the source's: asked before the row is read.
+#[tactic(auto, unfolding(crate::specs::Chosen::shows))]
 fn shown_at(room: &[u8], table: RowTable, source: usize, i: usize) -> bool
     requires stands { Stands table.base ROWS room.now }
     requires i_bound { i < low32_at room.now table.base }
@@ -155,6 +157,7 @@ impl Test for AgainstColumn {
 }
 
 // One pair more in front; the last gives way.
+#[tactic(auto, unfolding(crate::specs::Columns::with_pair))]
 fn with_pair(p: Pairs, own: usize, other: usize) -> Pairs
     ensures { result ≡ with_pair own other p }
 {
@@ -250,6 +253,7 @@ fn columns_of(room: &[u8], table: RowTable, rows: Picked, p: Pairs) -> SourceCol
 
 impl SourceColumns {
     // Whether the row j has what is wanted.
+    #[tactic(auto, unfolding(crate::specs::Columns::has_at))]
     fn has_at(&self, w: Wanted, j: usize) -> bool
         requires { j < 64 }
         ensures { result ≡ has_at self.now.s0 self.now.s1 self.now.s2 self.now.s3 w j }
@@ -271,7 +275,7 @@ impl SourceColumns {
         let mut hits: u32 = 0;
         for j in 0..64 {
             let differs = (self.s0[j] ^ w.v0) | (self.s1[j] ^ w.v1) | (self.s2[j] ^ w.v2) | (self.s3[j] ^ w.v3);
-            hits += if differs == 0 { 1 } else { 0 };
+            hits += (differs == 0) as u32;
         }
         0 < hits
     }
@@ -288,6 +292,7 @@ impl SourceColumns {
 }
 
 // What the own columns of the pairs hold in the row i of a table.
+#[tactic(auto, unfolding(crate::specs::Columns::wanted_of))]
 fn wanted_by(room: &[u8], table: RowTable, i: usize, p: Pairs) -> Wanted
     requires stands { Stands table.base ROWS room.now }
     requires i_bound { i < low32_at room.now table.base }
@@ -374,16 +379,10 @@ fn term_rows(room: &[u8], book: &[u8], table: RowTable, t: Term, rows: Picked) -
             column,
             constant,
         } => {
-            let test = AgainstConstant {
-                op,
-                column,
-                constant,
-            };
-            kept(room, table, rows, &test)
+            kept(room, table, rows, &AgainstConstant { op, column, constant })
         }
         Term::Columns { op, column, other } => {
-            let test = AgainstColumn { op, column, other };
-            kept(room, table, rows, &test)
+            kept(room, table, rows, &AgainstColumn { op, column, other })
         }
         Term::Match {
             negated,

@@ -8,12 +8,8 @@ use Rattle.query.proofs.Loops.{emptied-laid, choosing-start, choosing-done, choo
 use Rattle.query.proofs.Loops.{choosing-inside, choosing-more}
 use Rattle.query.proofs.choose.Goals as goal
 
-pub wanted_rows-rows-requires : goal.wanted_rows-rows-requires
-wanted_rows-rows-requires c =
-    record {
-      laid = emptied-laid c.requires c.empty.ensures;
-      base_value = c.table_of-table.ensures;
-    }
+pub wanted_rows-rows-requires-clause-laid : goal.wanted_rows-rows-requires-clause-laid
+wanted_rows-rows-requires-clause-laid c = emptied-laid c.requires c.empty.ensures
 
 pub loop-j-init : goal.loop-j-init
 loop-j-init c =

@@ -22,9 +22,6 @@ value_at-requires c =
     let inside = c.requires.within.inside _ c.loop-j-test.true in
     (omega arith, (c.requires.stands, omega (arith, c.wide-in-loop-j.ensures.0, table-length c.args.room.now c.args.table.base, inside)))
 
-pub bounds-values-j : goal.bounds-values-j
-bounds-values-j c = omega (arith, c.loop-j.invariant.few, c.loop-j.invariant.len)
-
 pub loop-j-preserved : goal.loop-j-preserved
 loop-j-preserved c =
     filling-more _ _ _ c.loop-j.invariant c.loop-j-test.true (rw (← c.wide-in-loop-j.ensures.0) c.value_at.ensures)

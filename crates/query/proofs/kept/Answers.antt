@@ -16,12 +16,6 @@ pub passes-requires-clause-i_bound : goal.passes-requires-clause-i_bound
 passes-requires-clause-i_bound g c =
     narrowing-stands _ _ _ c.loop-j.invariant c.loop-j-test.true c.wide.ensures.0
 
-pub bounds-places-count : goal.bounds-places-count
-bounds-places-count g c = narrowing-room _ _ c.loop-j.invariant c.loop-j-test.true
-
-pub overflow_add-count : goal.overflow_add-count
-overflow_add-count g c = omega (arith, narrowing-room _ _ c.loop-j.invariant c.loop-j-test.true)
-
 pub loop-j-preserved : goal.loop-j-preserved
 loop-j-preserved g c =
     elim c.if-passes.branch [

@@ -13,6 +13,10 @@ pub shown_rows-others-requires : goal.shown_rows-others-requires
 shown_rows-others-requires c =
     base-stands c.requires.laid c.args.source c.table_of-from.ensures
 
+pub columns_of-requires-clause-stands : goal.columns_of-requires-clause-stands
+columns_of-requires-clause-stands c =
+    base-stands c.requires.laid c.args.source c.table_of-from.ensures
+
 pub returns-then-negated : goal.returns-then-negated
 returns-then-negated c =
     none-every _ _ c.table_of-from.ensures c.shown_rows-others.ensures c.if-others-eq0.true _ _ _ _ c.requires.within
@@ -22,17 +26,6 @@ pub returns-then-others-eq0 : goal.returns-then-others-eq0
 returns-then-others-eq0 c =
     none_any _ _ c.table_of-from.ensures c.shown_rows-others.ensures c.if-others-eq0.true _ _ _ _ c.requires.within _
     c.if-negated.false
-
-pub pairs_at-pairs-requires : goal.pairs_at-pairs-requires
-pairs_at-pairs-requires c = record { in_bounds = c.requires.in_bounds; at_len_bound = c.requires.pairs_len_bound }
-
-pub columns_of-requires : goal.columns_of-requires
-columns_of-requires c =
-    record {
-      stands = base-stands c.requires.laid c.args.source c.table_of-from.ensures;
-      within = c.shown_rows-others.ensures.within;
-      count_nonzero = omega (arith, c.if-others-eq0.false);
-    }
 
 pub returns : goal.returns
 returns c =

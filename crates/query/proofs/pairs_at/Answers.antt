@@ -13,7 +13,7 @@ overflow_add-at c = let low = first-own _ _ _ c.requires.in_bounds c.byte-own0.e
 
 pub overflow_add-here : goal.overflow_add-here
 overflow_add-here c =
-    let low = first-own _ _ _ c.requires.in_bounds c.byte-own0.ensures in
+    let low = first-other _ _ _ c.requires.in_bounds c.byte-own0.ensures c.byte-other0.ensures in
     search rules
 
 pub loop-init : goal.loop-init

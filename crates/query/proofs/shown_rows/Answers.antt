@@ -17,9 +17,6 @@ pub loop-i-init : goal.loop-i-init
 loop-i-init c =
     showing-start _ (omega (arith, c.requires.size, table-length c.args.room.now c.args.table.base)) (omega arith)
 
-pub bounds-places-count : goal.bounds-places-count
-bounds-places-count c = omega (arith, c.loop-i.invariant.few)
-
 pub loop-i-preserved : goal.loop-i-preserved
 loop-i-preserved c =
     let whole = table-length c.args.room.now c.args.table.base in
