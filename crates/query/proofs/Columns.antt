@@ -77,11 +77,11 @@ differs-none s0 s1 s2 s3 w j =
 -- ---- One of the first numbers passes
 
 module _ (p : ℕ → Bool) where
-  pub below_more : (j : ℕ) → some_below p (j + 1) ≡ (p j || some_below p j)
+  below_more : (j : ℕ) → some_below p (j + 1) ≡ (p j || some_below p j)
   unfolding some_below
   below_more j = rw (add-one j)
 
-  pub below-found : (j n : ℕ) → j < n → p j ≡ true → some_below p n ≡ true
+  below-found : (j n : ℕ) → j < n → p j ≡ true → some_below p n ≡ true
   unfolding some_below
   below-found j zero h e = absurd (omega arith)
   below-found j (suc n) h e =

@@ -78,7 +78,7 @@ module _ {x0 x : List ℕ} {base : ℕ} (rows : Picked) {j : ℕ} (s : Choosing 
   table_kept = table-kept-below s.frame base ROWS s.source s.below
 
   -- what the turn's calls require
-  pub choosing-few : j < 64
+  choosing-few : j < 64
   choosing-few = omega (arith, s.within.few)
 
   pub choosing-stands : Stands base ROWS x

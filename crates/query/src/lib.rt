@@ -274,7 +274,10 @@ impl SourceColumns {
     {
         let mut hits: u32 = 0;
         for j in 0..64 {
-            let differs = (self.s0[j] ^ w.v0) | (self.s1[j] ^ w.v1) | (self.s2[j] ^ w.v2) | (self.s3[j] ^ w.v3);
+            let differs = (self.s0[j] ^ w.v0)
+                | (self.s1[j] ^ w.v1)
+                | (self.s2[j] ^ w.v2)
+                | (self.s3[j] ^ w.v3);
             hits += (differs == 0) as u32;
         }
         0 < hits
@@ -379,10 +382,16 @@ fn term_rows(room: &[u8], book: &[u8], table: RowTable, t: Term, rows: Picked) -
             column,
             constant,
         } => {
-            kept(room, table, rows, &AgainstConstant { op, column, constant })
+            let test = AgainstConstant {
+                op,
+                column,
+                constant,
+            };
+            kept(room, table, rows, &test)
         }
         Term::Columns { op, column, other } => {
-            kept(room, table, rows, &AgainstColumn { op, column, other })
+            let test = AgainstColumn { op, column, other };
+            kept(room, table, rows, &test)
         }
         Term::Match {
             negated,

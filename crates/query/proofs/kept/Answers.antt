@@ -1,9 +1,8 @@
 -- `query::kept` meets its contract: the places are narrowed in place to those of the rows that pass the test.
 use borrow.Author.Rules.{rules}
 use mathlib.Core.Path.{◌≡◌, sym, ◌∙◌}
-use native.Mathlib.Omega.{arith}
 use lib.ListN.{length}
-use Rattle.query.proofs.Narrowing.{narrowing-start, narrowing-room, narrowing-stands, narrowing-yes, narrowing-no, narrowing-done}
+use Rattle.query.proofs.Narrowing.{narrowing-start, narrowing-stands, narrowing-yes, narrowing-no, narrowing-done}
 use Rattle.query.proofs.kept.Goals.{then-passes, else-passes}
 use Rattle.query.proofs.kept.Goals as goal
 

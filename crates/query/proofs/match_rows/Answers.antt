@@ -1,6 +1,5 @@
 -- `query::match_rows` meets its contract: a match with the rows that the source shows is one with the source's rows; with none of them it
 -- holds of no row.
-use native.Mathlib.Omega.{arith}
 use Rattle.words.specs.Words.{Bytes}
 use Rattle.slots.specs.Slots.{table_at}
 use Rattle.query.specs.Picks.{slots_of}

@@ -20,7 +20,7 @@ pub loop-init : goal.loop-init
 loop-init c =
     let next : c.args.at + 2 ≡ c.args.at + 1 + 1 = omega arith in
     rw next
-    (    gathering-start (first_some _ _ _ c.requires.in_bounds) c.requires.at_len_bound
+    (gathering-start (first_some _ _ _ c.requires.in_bounds) c.requires.at_len_bound
     (pair_read c.byte-own0.ensures (first-own _ _ _ c.requires.in_bounds c.byte-own0.ensures) c.byte-other0.ensures (first-other _ _ _ c.requires.in_bounds c.byte-own0.ensures c.byte-other0.ensures)))
 
 pub returns-then-own-gt3 : goal.returns-then-own-gt3

@@ -1,7 +1,7 @@
 -- `query::wanted_rows` meets its contract. The loop's invariant: the rows of which all terms hold are those, of the rows that are left, of
 -- which the terms that are left hold.
 use mathlib.Core.Path.{◌≡◌, sym, ap, ◌∙◌}
-use Prim.Native.Nat.{ℕ, ◌+◌, ◌-◌}
+use Prim.Native.Nat.{◌+◌, ◌-◌}
 use native.Mathlib.Omega.{arith}
 use Rattle.meaning.specs.ByteLayouts.{term}
 use Rattle.meaning.specs.Processing.Queries.{all_hold}

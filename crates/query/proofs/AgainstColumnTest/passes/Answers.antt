@@ -1,5 +1,5 @@
 -- The test of `query::AgainstColumn` is its definition: the words of the cells are their values.
-use mathlib.Core.Path.{◌≡◌, refl, ◌∙◌}
+use mathlib.Core.Path.{refl}
 use Rattle.slots.specs.Slots.{table_at}
 use Rattle.query.proofs.Laws.{cell-read}
 use Rattle.query.proofs.AgainstColumnTest.passes.Goals as goal

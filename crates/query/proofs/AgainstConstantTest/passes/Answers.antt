@@ -1,5 +1,5 @@
 -- The test of `query::AgainstConstant` is its definition: the word of a cell is its value.
-use mathlib.Core.Path.{◌≡◌, refl, ◌∙◌}
+use mathlib.Core.Path.{refl}
 use Rattle.slots.specs.Slots.{table_at}
 use Rattle.query.proofs.Laws.{cell-read}
 use Rattle.query.proofs.AgainstConstantTest.passes.Goals as goal

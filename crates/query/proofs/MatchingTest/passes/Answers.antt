@@ -1,5 +1,4 @@
 -- The test of `query::Matching` is its definition: what is found is as it was asked, or its opposite.
-use mathlib.Core.Path.{◌≡◌}
 use Rattle.query.proofs.Columns.{kept-opposite, kept_same}
 use Rattle.query.proofs.MatchingTest.passes.Goals as goal
 
