@@ -9,7 +9,7 @@ pub loop-j-init : goal.loop-j-init
 loop-j-init c = counting-start _
 
 pub loop-j-preserved : goal.loop-j-preserved
-loop-j-preserved c = counting-more c.loop-j.invariant c.loop-j-test.true _ (differs-none _ _ _ _ _ _)
+loop-j-preserved c = counting-more c.loop-j.invariant (omega arith) _ (differs-none _ _ _ _ _ _)
 
 pub returns : goal.returns
 returns c =
