@@ -1,5 +1,4 @@
--- The loops over a table: what is left of a list that is counted down, and the choice of rows at picked places, one after another, into the
--- table of the chosen ones.
+-- The choice of rows at picked places, one after another, into the table of the chosen ones.
 use mathlib.Core.Path.{◌≡◌, sym, ap, ◌∙◌}
 use mathlib.Core.List.{List, [], ◌∷◌, ◌++◌, map-append}
 use Prim.Native.Nat.{ℕ, ◌+◌, ◌%◌, ◌≤◌, ◌<◌}

@@ -261,7 +261,7 @@ impl SourceColumns {
         self.s0[j] == w.v0 && self.s1[j] == w.v1 && self.s2[j] == w.v2 && self.s3[j] == w.v3
     }
 
-    // Whether one of the rows has what is wanted: row by row.
+    // Whether one of the rows has what is wanted: one by one, up to the first that has.
     fn some_of_few(&self, w: Wanted) -> bool
         ensures { result ≡ some_below (has_at self.now.s0 self.now.s1 self.now.s2 self.now.s3 w) self.now.count }
     {
@@ -283,7 +283,7 @@ impl SourceColumns {
         0 < hits
     }
 
-    // Whether one of the rows has what is wanted.
+    // Whether one of the rows has what is wanted. A few are asked one by one; of more than that, all 64 places are compared.
     fn some_has(&self, w: Wanted) -> bool
         ensures { result ≡ some_below (has_at self.now.s0 self.now.s1 self.now.s2 self.now.s3 w) self.now.count }
     {
