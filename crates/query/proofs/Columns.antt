@@ -1,17 +1,20 @@
 -- Laws of a search over columns. A row has all that is wanted where the differences, joined bit by bit, are 0; places that repeat the first
 -- row add nothing to what some row has; and the rows of the columns are the picked rows.
+use Rattle.std.specs.Prelude.{if◌then◌else◌}
+use Rattle.std.specs.List.{list_any, range_with_len}
 use mathlib.Core.Path.{◌≡◌, refl, sym, ap, ◌∙◌}
-use mathlib.Core.Bool.{Bool, true, false, not, ◌&&◌, ◌||◌}
+use mathlib.Core.Bool.{Bool, true, false, not, ◌&&◌, ◌||◌, or-false}
 use mathlib.Core.List.{List, [], ◌∷◌, ◌++◌, map, map-append}
 use Prim.Native.Nat.{ℕ, zero, suc, ◌+◌, ◌≤◌, ◌<◌}
 use native.Mathlib.Numerals.{add-one}
 use native.Mathlib.Omega.{arith}
 use borrow.Author.Tests.{eqb-true, eqb-false, eq-eqb, ne_eqb, ltb-true, ltb-false, lt-ltb}
+use mir.Val.{bool_byte}
 use lib.Bits.{bit_or, bit_xor, or_add_and, xor_add_and, and_le_l, and_le_r, and_self}
 use lib.Dec.{eqb, ltb}
 use lib.ListN.{length, get_or, set, take, replicate, length-set, length-replicate}
 use lib.Seq.{take-suc, get_or-set_same, get_or-set_other}
-use Rattle.meaning.specs.Base.{any}
+use Rattle.meaning.specs.Base.{any, select}
 use Rattle.meaning.specs.Values.{agree}
 use Rattle.meaning.specs.Processing.Queries.{cell}
 use Rattle.words.specs.Words.{Bytes}
@@ -25,7 +28,7 @@ use Rattle.room.specs.Room.{row_meant}
 use Rattle.query.specs.declared.Pairs.{Pairs}
 use Rattle.query.specs.declared.Picked.{Picked}
 use Rattle.query.specs.declared.Wanted.{Wanted}
-use Rattle.query.specs.Picks.{slots_of, Within, agree_on_four}
+use Rattle.query.specs.Picks.{slots_of, Within, PicksOut, agree_on_four}
 use Rattle.query.specs.Columns.{Padded, ColumnOf, ColumnsOf, wanted_of, has_at, some_below, agrees_with, kept_by}
 use Rattle.room.proofs.Cells.{value_cell}
 
@@ -64,31 +67,21 @@ all-equal a b c d w x y z =
     regroup true true r s = refl
 
 -- the row j of four columns, by its differences from what is wanted
-module _ (s0 s1 s2 s3 : List ℕ) (w : Wanted) (j : ℕ) where
-  abbrev differs : ℕ
-  differs =
-      bit_or (bit_or (bit_or (bit_xor (get_or s0 j 0) w.v0) (bit_xor (get_or s1 j 0) w.v1)) (bit_xor (get_or s2 j 0) w.v2))
-      (bit_xor (get_or s3 j 0) w.v3)
-
-  differs_none : eqb differs 0 ≡ has_at s0 s1 s2 s3 w j
-  unfolding has_at
-  differs_none =
-      all-equal (get_or s0 j 0) (get_or s1 j 0) (get_or s2 j 0) (get_or s3 j 0) w.v0 w.v1 w.v2 w.v3
-
-  pub has_all : differs ≡ 0 → has_at s0 s1 s2 s3 w j ≡ true
-  has_all e = sym differs_none ∙ eq-eqb differs 0 e
-
-  pub has-not-all : (differs ≡ 0 → ⊥) → has_at s0 s1 s2 s3 w j ≡ false
-  has-not-all n = sym differs_none ∙ ne_eqb differs 0 n
+pub differs-none : (s0 s1 s2 s3 : List ℕ) (w : Wanted) (j : ℕ)
+    → eqb (bit_or (bit_or (bit_or (bit_xor (get_or s0 j 0) w.v0) (bit_xor (get_or s1 j 0) w.v1)) (bit_xor (get_or s2 j 0) w.v2)) (bit_xor (get_or s3 j 0) w.v3)) 0
+    ≡ has_at s0 s1 s2 s3 w j
+unfolding has_at
+differs-none s0 s1 s2 s3 w j =
+    all-equal (get_or s0 j 0) (get_or s1 j 0) (get_or s2 j 0) (get_or s3 j 0) w.v0 w.v1 w.v2 w.v3
 
 -- ---- One of the first numbers passes
 
 module _ (p : ℕ → Bool) where
-  pub below_more : (j : ℕ) → some_below p (j + 1) ≡ (p j || some_below p j)
+  below_more : (j : ℕ) → some_below p (j + 1) ≡ (p j || some_below p j)
   unfolding some_below
   below_more j = rw (add-one j)
 
-  pub below-found : (j n : ℕ) → j < n → p j ≡ true → some_below p n ≡ true
+  below-found : (j n : ℕ) → j < n → p j ≡ true → some_below p n ≡ true
   unfolding some_below
   below-found j zero h e = absurd (omega arith)
   below-found j (suc n) h e =
@@ -110,6 +103,22 @@ module _ (p : ℕ → Bool) where
       (λ t. rw (here, t) (sym (below-found 0 n some t)))
       (λ f. rw (here, f) before))
 
+  -- over numbers, one after another
+  numbers-from : (n a m : ℕ) → a + n ≡ m → (list_any p (range_with_len a n) || some_below p a) ≡ some_below p m
+  numbers-from zero a m e = let same : a ≡ m = omega arith in rw same
+  numbers-from (suc n) a m e =
+      turn (p a) (list_any p (range_with_len (a + 1) n)) (some_below p a)
+      ∙ rw (← below_more a) (numbers-from n (a + 1) m (omega arith))
+    where
+      turn : (x y z : Bool) → ((x || y) || z) ≡ (y || (x || z))
+      turn true true z = refl
+      turn true false z = refl
+      turn false y z = refl
+
+  pub any-below : (n : ℕ) → list_any p (range_with_len 0 n) ≡ some_below p n
+  unfolding some_below
+  any-below n = sym (or-false (list_any p (range_with_len 0 n))) ∙ numbers-from n 0 n (omega arith)
+
 -- of 64 rows, where the places from n on have the first
 pub some-padded : (s0 s1 s2 s3 : List ℕ) (w : Wanted) (n : ℕ) → 0 < n → n ≤ 64
     → Padded n s0 → Padded n s1 → Padded n s2 → Padded n s3
@@ -130,19 +139,18 @@ pub counting-start : (p : ℕ → Bool) → Counting p 0 0
 unfolding some_below
 counting-start p = record { low = omega arith; most = omega arith; is = refl }
 
-module _ {p : ℕ → Bool} {hits j : ℕ} (s : Counting p hits j) (more : j < 64) where
-  pub counting-yes : p j ≡ true → Counting p (hits + 1) (j + 1)
-  counting-yes e =
-      record {
-        low = omega (arith, s.low);
-        most = omega arith;
-        is = rw (below_more p j, e) (lt-ltb 0 (hits + 1) (omega arith));
-      }
-
-  pub counting-no : p j ≡ false → Counting p (hits + 0) (j + 1)
-  counting-no e =
-      let same : hits + 0 ≡ hits = omega arith in
-      record { low = omega (arith, s.low); most = omega arith; is = rw (same, below_more p j, e) s.is }
+-- one more where the row j passes
+pub counting-more : {p : ℕ → Bool} {hits j : ℕ} → Counting p hits j → j < 64 → (b : Bool) → b ≡ p j
+    → Counting p (hits + bool_byte b) (j + 1)
+counting-more {p} {hits} {j} s more true e =
+    record {
+      low = omega (arith, s.low);
+      most = omega arith;
+      is = rw (below_more p j, ← e) (lt-ltb 0 (hits + 1) (omega arith));
+    }
+counting-more {p} {hits} {j} s more false e =
+    let same : hits + 0 ≡ hits = omega arith in
+    record { low = omega (arith, s.low); most = omega arith; is = rw (same, below_more p j, ← e) s.is }
 
 -- ---- A column, filled row by row: every place that is not filled yet has the first row's value
 
@@ -240,31 +248,48 @@ agree-words {e} {x} f g c d =
     rw (← value_cell e c, ← value_cell x d)
     (eqb_comm (slot_value x d) (slot_value e c) ∙ sym (signed-agree (slot_value e c) (slot_value x d) (value-fits f c) (value-fits g d)))
 
-module _ (xs : List ℕ) (bytes : Bytes xs) (base i from : ℕ) (p : Pairs) (rows : Picked) {s0 s1 s2 s3 : List ℕ}
-    (columns : ColumnsOf (table_at xs from) rows p s0 s1 s2 s3) where
-  has-agrees : (j : ℕ) → j < rows.count
+select-same : {A : Type 0} (p q : A → Bool) (g : ℕ → A) → ((i : ℕ) → p (g i) ≡ q (g i)) → (l : List ℕ)
+    → select p (map g l) ≡ select q (map g l)
+select-same p q g same [] = refl
+select-same {A} p q g same (i ∷ l) =
+    rw (same i) (ap (λ (r : List A). if q (g i) then g i ∷ r else r) (select-same p q g same l))
+
+module _ (xs : List ℕ) (bytes : Bytes xs) (base from : ℕ) (p : Pairs) (others : Picked) {s0 s1 s2 s3 : List ℕ}
+    (columns : ColumnsOf (table_at xs from) others p s0 s1 s2 s3) where
+  has-agrees : (i j : ℕ) → j < others.count
       → has_at s0 s1 s2 s3 (wanted_of p (get_or (table_at xs base) i blank)) j
-      ≡ agree_on_four p (row_meant (get_or (table_at xs base) i blank)) (row_meant (get_or (table_at xs from) (get_or rows.places j 0) blank))
+      ≡ agree_on_four p (row_meant (get_or (table_at xs base) i blank)) (row_meant (get_or (table_at xs from) (get_or others.places j 0) blank))
   unfolding has_at wanted_of agree_on_four
-  has-agrees j h =
+  has-agrees i j h =
       let f = table_fits_lem xs bytes base i in
-      let g = table_fits_lem xs bytes from (get_or rows.places j 0) in
+      let g = table_fits_lem xs bytes from (get_or others.places j 0) in
       rw (columns.first.held j h, columns.second.held j h, columns.third.held j h, columns.fourth.held j h)
       (rw (agree-words f g p.own0 p.other0, agree-words f g p.own1 p.other1, agree-words f g p.own2 p.other2)
       (rw (agree-words f g p.own3 p.other3)))
 
-  some-has : some_below (has_at s0 s1 s2 s3 (wanted_of p (get_or (table_at xs base) i blank))) rows.count
-      ≡ agrees_with p (slots_of (table_at xs from) rows) (get_or (table_at xs base) i blank)
+  some-has : (i : ℕ) → some_below (has_at s0 s1 s2 s3 (wanted_of p (get_or (table_at xs base) i blank))) others.count
+      ≡ agrees_with p (slots_of (table_at xs from) others) (get_or (table_at xs base) i blank)
   unfolding agrees_with slots_of
-  some-has =
+  some-has i =
       some-any _ (λ x. agree_on_four p (row_meant (get_or (table_at xs base) i blank)) (row_meant x)) (λ k. get_or (table_at xs from) k blank)
-      rows.places rows.count columns.first.placed has-agrees
+      others.places others.count columns.first.placed (has-agrees i)
 
-  -- as it was asked
-  pub found-agrees : {w : Wanted} {found : Bool} → w ≡ wanted_of p (get_or (table_at xs base) i blank)
-      → found ≡ some_below (has_at s0 s1 s2 s3 w) rows.count
-      → found ≡ agrees_with p (slots_of (table_at xs from) rows) (get_or (table_at xs base) i blank)
-  found-agrees same is = is ∙ rw same some-has
+  -- of picked rows, those of which a match with the rows of the columns holds, or its opposite
+  pub columns-agree : (negated : Bool) (rows : Picked) {l : Picked} {count : ℕ} → count ≡ others.count
+      → PicksOut (table_at xs base)
+      (select (λ e. kept_by negated (some_below (has_at s0 s1 s2 s3 (wanted_of p e)) count)) (slots_of (table_at xs base) rows)) l
+      → PicksOut (table_at xs base)
+      (select (λ e. kept_by negated (agrees_with p (slots_of (table_at xs from) others) e)) (slots_of (table_at xs base) rows)) l
+  unfolding slots_of
+  columns-agree negated rows all k =
+      record {
+        within = k.within;
+        slots =
+            rw all at k.slots
+            ∙ select-same (λ e. kept_by negated (some_below (has_at s0 s1 s2 s3 (wanted_of p e)) others.count))
+            (λ e. kept_by negated (agrees_with p (slots_of (table_at xs from) others) e)) (λ i. get_or (table_at xs base) i blank)
+            (λ i. ap (kept_by negated) (some-has i)) (take rows.count rows.places);
+      }
 
 -- a match, or its opposite
 module _ {found held : Bool} (is : found ≡ held) {negated : Bool} where

@@ -1,5 +1,5 @@
 pub mod Laws
-pub mod Kept
+pub mod Keeping
 pub mod Loops
 mod Narrowing
 mod Asking

@@ -1,5 +1,4 @@
--- The loops over a table: what is left of a list that is counted down, and the choice of rows at picked places, one after another, into the
--- table of the chosen ones.
+-- The choice of rows at picked places, one after another, into the table of the chosen ones.
 use mathlib.Core.Path.{◌≡◌, sym, ap, ◌∙◌}
 use mathlib.Core.List.{List, [], ◌∷◌, ◌++◌, map-append}
 use Prim.Native.Nat.{ℕ, ◌+◌, ◌%◌, ◌≤◌, ◌<◌}
@@ -20,7 +19,7 @@ use Rattle.query.specs.declared.Picked.{Picked}
 use Rattle.query.specs.Chosen.{base_of, Chose}
 use Rattle.query.specs.Picks.{slots_of, Within, PicksOut}
 use Rattle.query.proofs.Laws.{wanted, chosen-rows}
-use Rattle.query.proofs.Kept.{source-below, base-stands, laid_kept}
+use Rattle.query.proofs.Keeping.{source-below, base-stands, laid_kept}
 use Rattle.query.proofs.Narrowing.{slots_at, slots-more}
 
 -- ---- The choice: the rows chosen so far are those at the first j places
@@ -78,7 +77,7 @@ module _ {x0 x : List ℕ} {base : ℕ} (rows : Picked) {j : ℕ} (s : Choosing 
   table_kept = table-kept-below s.frame base ROWS s.source s.below
 
   -- what the turn's calls require
-  pub choosing-few : j < 64
+  choosing-few : j < 64
   choosing-few = omega (arith, s.within.few)
 
   pub choosing-stands : Stands base ROWS x

@@ -154,13 +154,13 @@ module _ {test : Slot → Bool} (l : List Slot) (rows : Picked) where
 
   module _ {places : List ℕ} {n j : ℕ} (s : Narrowing test l rows places n j) where
     -- what a turn asks
-    pub narrowing-inside : j < rows.count → get_or places j 0 < length l
+    narrowing-inside : j < rows.count → get_or places j 0 < length l
     narrowing-inside h = rw (s.rest j (omega arith)) (s.within.inside j h)
 
-    pub narrowing-few : j < rows.count → j < 64
+    narrowing-few : j < rows.count → j < 64
     narrowing-few h = omega (arith, s.within.few)
 
-    pub narrowing-room : j < rows.count → n < 64
+    narrowing-room : j < rows.count → n < 64
     narrowing-room h = omega (arith, s.low, narrowing-few h)
 
     last-picked : j < rows.count → slots_at l rows.places (j + 1) ≡ slots_at l rows.places j ++ (get_or l (get_or places j 0) blank ∷ [])

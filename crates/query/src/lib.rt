@@ -14,7 +14,7 @@ ghost use Rattle.terms.specs.Terms.{term_meant, terms_meant, query_meant};
 ghost use Rattle.room.specs.Room.{ROWS, Laid, row_meant, live_rows, transition_in};
 ghost use Rattle.query.specs.Chosen.{base_of, shows as chosen_shows, Chose};
 ghost use Rattle.query.specs.Picks.{slots_of, Within, PicksOut, AsPairs, match_holds, term_holds, FewPairs};
-ghost use Rattle.query.specs.Columns.{with_pair, ColumnOf, ColumnsOf, wanted_of, has_at, some_below, Padded, agrees_with, kept_by};
+ghost use Rattle.query.specs.Columns.{with_pair, ColumnOf, ColumnsOf, wanted_of, has_at, some_below, Padded, kept_by};
 
 use room::RowTable;
 use terms::{Query, Term};
@@ -49,6 +49,7 @@ struct Wanted {
 }
 
 // Where a source's rows stand: a table's are among the live ones.
+#[tactic(auto, unfolding(crate::specs::Chosen::base_of))]
 fn table_of(source: usize) -> RowTable
     ensures { result.base ≡ base_of source }
 {
@@ -62,6 +63,7 @@ fn table_of(source: usize) -> RowTable
 }
 
 // Whether the slot i of where a source's rows stand is one of the source's: asked before the row is read.
+#[tactic(auto, unfolding(crate::specs::Chosen::shows))]
 fn shown_at(room: &[u8], table: RowTable, source: usize, i: usize) -> bool
     requires stands { Stands table.base ROWS room.now }
     requires i_bound { i < low32_at room.now table.base }
@@ -155,6 +157,7 @@ impl Test for AgainstColumn {
 }
 
 // One pair more in front; the last gives way.
+#[tactic(auto, unfolding(crate::specs::Columns::with_pair))]
 fn with_pair(p: Pairs, own: usize, other: usize) -> Pairs
     ensures { result ≡ with_pair own other p }
 {
@@ -188,7 +191,7 @@ fn pairs_at(book: &[u8], at: usize, n: usize) -> Pairs
         own3: own0,
         other3: other0,
     };
-    let mut here = at + 1 + 1;
+    let mut here = at + 2;
     for _ in 1..n {
         let own = words::byte(book, here);
         if 3 < own {
@@ -199,7 +202,7 @@ fn pairs_at(book: &[u8], at: usize, n: usize) -> Pairs
             return p;
         }
         p = with_pair(p, own, other);
-        here = here + 1 + 1;
+        here += 2;
     }
     p
 }
@@ -219,71 +222,80 @@ fn column_of(room: &[u8], table: RowTable, rows: Picked, column: usize) -> [u32;
     values
 }
 
-// Whether the row j of four columns has what is wanted.
-fn has_at(
-    s0: &[u32; 64],
-    s1: &[u32; 64],
-    s2: &[u32; 64],
-    s3: &[u32; 64],
-    w: Wanted,
-    j: usize,
-) -> bool
-    requires { j < 64 }
-    ensures { result ≡ has_at s0.now s1.now s2.now s3.now w j }
-{
-    s0[j] == w.v0 && s1[j] == w.v1 && s2[j] == w.v2 && s3[j] == w.v3
+// The columns that a match reads of its source rows, one row or more: every place after the last row has the first row's values.
+#[derive(Clone, Copy)]
+struct SourceColumns {
+    count: usize,
+    s0: [u32; 64],
+    s1: [u32; 64],
+    s2: [u32; 64],
+    s3: [u32; 64],
+    ghost few: { (0 < count) × (count ≤ 64) },
+    ghost padded: { (Padded count s0) × (Padded count s1) × (Padded count s2) × (Padded count s3) },
 }
 
-// Whether one of the first n source rows has what is wanted.
-fn some_of_few(
-    s0: &[u32; 64],
-    s1: &[u32; 64],
-    s2: &[u32; 64],
-    s3: &[u32; 64],
-    n: usize,
-    w: Wanted,
-) -> bool
-    requires { n ≤ 64 }
-    ensures { result ≡ some_below (has_at s0.now s1.now s2.now s3.now w) n }
+// The columns of picked rows, one or more, on the source side of the pairs.
+fn columns_of(room: &[u8], table: RowTable, rows: Picked, p: Pairs) -> SourceColumns
+    requires stands { Stands table.base ROWS room.now }
+    requires within { Within (table_at room.now table.base) rows }
+    requires count_nonzero { 0 < rows.count }
+    ensures count { result.count ≡ rows.count }
+    ensures columns { ColumnsOf (table_at room.now table.base) rows p result.s0 result.s1 result.s2 result.s3 }
 {
-    (0..n).any(|j| has_at(s0, s1, s2, s3, w, j))
-}
-
-// Whether one of 64 source rows has what is wanted: counted over all of them, so that the compiler compares many at a time.
-fn some_of_64(s0: &[u32; 64], s1: &[u32; 64], s2: &[u32; 64], s3: &[u32; 64], w: Wanted) -> bool
-    ensures { result ≡ some_below (has_at s0.now s1.now s2.now s3.now w) 64 }
-{
-    let mut hits: u32 = 0;
-    for j in 0..64 {
-        hits += if (s0[j] ^ w.v0) | (s1[j] ^ w.v1) | (s2[j] ^ w.v2) | (s3[j] ^ w.v3) == 0 {
-            1
-        } else {
-            0
-        };
+    SourceColumns {
+        count: rows.count,
+        s0: column_of(room, table, rows, p.other0),
+        s1: column_of(room, table, rows, p.other1),
+        s2: column_of(room, table, rows, p.other2),
+        s3: column_of(room, table, rows, p.other3),
     }
-    0 < hits
 }
 
-// Whether one of the first n source rows has what is wanted, where every place after them has the first.
-fn some_agrees(
-    s0: &[u32; 64],
-    s1: &[u32; 64],
-    s2: &[u32; 64],
-    s3: &[u32; 64],
-    n: usize,
-    w: Wanted,
-) -> bool
-    requires n_nonzero { (0 < n) × (n ≤ 64) }
-    requires padded { (Padded n s0.now) × (Padded n s1.now) × (Padded n s2.now) × (Padded n s3.now) }
-    ensures { result ≡ some_below (has_at s0.now s1.now s2.now s3.now w) n }
-{
-    if n <= 16 {
-        return some_of_few(s0, s1, s2, s3, n, w);
+impl SourceColumns {
+    // Whether the row j has what is wanted.
+    #[tactic(auto, unfolding(crate::specs::Columns::has_at))]
+    fn has_at(&self, w: Wanted, j: usize) -> bool
+        requires { j < 64 }
+        ensures { result ≡ has_at self.now.s0 self.now.s1 self.now.s2 self.now.s3 w j }
+    {
+        self.s0[j] == w.v0 && self.s1[j] == w.v1 && self.s2[j] == w.v2 && self.s3[j] == w.v3
     }
-    some_of_64(s0, s1, s2, s3, w)
+
+    // Whether one of the rows has what is wanted: one by one, up to the first that has.
+    fn some_of_few(&self, w: Wanted) -> bool
+        ensures { result ≡ some_below (has_at self.now.s0 self.now.s1 self.now.s2 self.now.s3 w) self.now.count }
+    {
+        (0..self.count).any(|j| self.has_at(w, j))
+    }
+
+    // Whether one of all 64 places has what is wanted: counted over all of them, so that the compiler compares many at a time.
+    fn some_of_64(&self, w: Wanted) -> bool
+        ensures { result ≡ some_below (has_at self.now.s0 self.now.s1 self.now.s2 self.now.s3 w) 64 }
+    {
+        let mut hits: u32 = 0;
+        for j in 0..64 {
+            let differs = (self.s0[j] ^ w.v0)
+                | (self.s1[j] ^ w.v1)
+                | (self.s2[j] ^ w.v2)
+                | (self.s3[j] ^ w.v3);
+            hits += (differs == 0) as u32;
+        }
+        0 < hits
+    }
+
+    // Whether one of the rows has what is wanted. A few are asked one by one; of more than that, all 64 places are compared.
+    fn some_has(&self, w: Wanted) -> bool
+        ensures { result ≡ some_below (has_at self.now.s0 self.now.s1 self.now.s2 self.now.s3 w) self.now.count }
+    {
+        if self.count <= 16 {
+            return self.some_of_few(w);
+        }
+        self.some_of_64(w)
+    }
 }
 
 // What the own columns of the pairs hold in the row i of a table.
+#[tactic(auto, unfolding(crate::specs::Columns::wanted_of))]
 fn wanted_by(room: &[u8], table: RowTable, i: usize, p: Pairs) -> Wanted
     requires stands { Stands table.base ROWS room.now }
     requires i_bound { i < low32_at room.now table.base }
@@ -297,62 +309,25 @@ fn wanted_by(room: &[u8], table: RowTable, i: usize, p: Pairs) -> Wanted
     }
 }
 
-// A match with some source rows, or its opposite: their columns, of which every place after the last row has the first row's values.
+// A match with source rows, or its opposite.
 #[derive(Clone, Copy)]
 struct Matching {
     negated: bool,
     pairs: Pairs,
-    count: usize,
-    s0: [u32; 64],
-    s1: [u32; 64],
-    s2: [u32; 64],
-    s3: [u32; 64],
-    ghost few: { (0 < count) × (count ≤ 64) },
-    ghost padded: { (Padded count s0) × (Padded count s1) × (Padded count s2) × (Padded count s3) },
+    columns: SourceColumns,
 }
 
 impl Test for Matching {
-    ghost passes = { λ t e. kept_by t.negated (some_below (has_at t.s0 t.s1 t.s2 t.s3 (wanted_of t.pairs e)) t.count) };
+    ghost passes = { λ t e. kept_by t.negated
+        (some_below (has_at t.columns.s0 t.columns.s1 t.columns.s2 t.columns.s3 (wanted_of t.pairs e)) t.columns.count) };
 
     fn passes(&self, room: &[u8], table: RowTable, i: usize) -> bool {
-        let w = wanted_by(room, table, i, self.pairs);
-        let found = some_agrees(&self.s0, &self.s1, &self.s2, &self.s3, self.count, w);
+        let found = self.columns.some_has(wanted_by(room, table, i, self.pairs));
         if self.negated {
             return !found;
         }
         found
     }
-}
-
-// The rows of which a match with source rows, one or more, holds, or does not.
-fn matched(
-    room: &[u8],
-    table: RowTable,
-    negated: bool,
-    from: RowTable,
-    others: Picked,
-    pairs: Pairs,
-    rows: Picked,
-) -> Picked
-    requires stands { Stands table.base ROWS room.now }
-    requires within { Within (table_at room.now table.base) rows }
-    requires stands_2 { Stands from.base ROWS room.now }
-    requires within_2 { Within (table_at room.now from.base) others }
-    requires count_nonzero { 0 < others.count }
-    ensures { PicksOut (table_at room.now table.base)
-        (select (λ e. kept_by negated (agrees_with pairs (slots_of (table_at room.now from.base) others) e))
-        (slots_of (table_at room.now table.base) rows)) result }
-{
-    let test = Matching {
-        negated,
-        pairs,
-        count: others.count,
-        s0: column_of(room, from, others, pairs.other0),
-        s1: column_of(room, from, others, pairs.other1),
-        s2: column_of(room, from, others, pairs.other2),
-        s3: column_of(room, from, others, pairs.other3),
-    };
-    kept(room, table, rows, &test)
 }
 
 // The rows of which a match with a source holds, or does not.
@@ -383,15 +358,13 @@ fn match_rows(
         }
         return Picked { count: 0, ..rows };
     }
-    matched(
-        room,
-        table,
+    let pairs = pairs_at(book, pairs, count);
+    let test = Matching {
         negated,
-        from,
-        others,
-        pairs_at(book, pairs, count),
-        rows,
-    )
+        pairs,
+        columns: columns_of(room, from, others, pairs),
+    };
+    kept(room, table, rows, &test)
 }
 
 // The rows of which a term holds.

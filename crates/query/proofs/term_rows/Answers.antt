@@ -20,11 +20,11 @@ match_rows-requires c =
 
 pub returns-in-Constant : goal.returns-in-Constant
 unfolding term_holds holds term_meant
-returns-in-Constant c = rw c.in-Constant.is c.constant_rows.ensures
+returns-in-Constant c = rw c.in-Constant.is c.kept.ensures
 
 pub returns-in-Columns : goal.returns-in-Columns
 unfolding term_holds holds term_meant
-returns-in-Columns c = rw c.in-Columns.is c.column_rows.ensures
+returns-in-Columns c = rw c.in-Columns.is c.kept-in-Columns.ensures
 
 pub returns-in-Match : goal.returns-in-Match
 unfolding term_meant

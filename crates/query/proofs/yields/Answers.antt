@@ -11,6 +11,6 @@ use Rattle.query.proofs.yields.Goals as goal
 pub returns : goal.returns
 returns c =
     let long : length c.wanted_rows-rows.result.places ≡ 64 = search rules in
-    let rows = select (wanted c.args.room.now c.args.book.now c.args.triggers c.args.q) (table_at c.args.room.now c.base_of-base.result) in
+    let rows = select (wanted c.args.room.now c.args.book.now c.args.triggers c.args.q) (table_at c.args.room.now c.table_of.result.base) in
     some-picked {rows = rows} c.wanted_rows-rows.ensures long
-    ∙ rw c.base_of-base.ensures (sym (some-chosen c.args.room.now c.args.book.now c.args.triggers c.args.q))
+    ∙ rw c.table_of.ensures (sym (some-chosen c.args.room.now c.args.book.now c.args.triggers c.args.q))

@@ -38,7 +38,7 @@ source-stands l source =
     (split (eqb source 6) (λ e. rw e l.new) (λ n6.
     rw n6 l.old)))))))
 
--- by an answer of `query::base_of`
+-- by an answer of `query::table_of`
 pub base-stands : {xs : List ℕ} → Laid xs → (source : ℕ) {base : ℕ} → base ≡ base_of source → Stands base ROWS xs
 base-stands l source e = rw e (source-stands l source)
 
