@@ -17,7 +17,7 @@ use Rattle.room.specs.Represents.{Represents, Running}
 use Rattle.room.proofs.Kept.{kept_trans, kept-below, live-kept, transition-kept, laid-aside}
 use Rattle.room.proofs.Steps.{made_all-none}
 use Rattle.query.specs.Chosen.{Chose}
-use Rattle.query.proofs.Kept.{laid_kept}
+use Rattle.query.proofs.Keeping.{laid_kept}
 use Rattle.working.specs.Working.{Works}
 use Rattle.changes.specs.declared.Step.{Step}
 use Rattle.changes.specs.declared.Reason.{Reason}
