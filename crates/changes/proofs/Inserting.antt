@@ -1,5 +1,5 @@
 -- The loop that inserts: where there is space for all rows worked out, the i-th is inserted with the i-th handle from the next one on.
-use Rattle.std.specs.Prelude.{if◌then◌else◌, Ok, Err, IsErrAnd, Result as RustResult}
+use Rattle.std.specs.Prelude.{if◌then◌else◌, Ok, Err, Result as RustResult}
 use mathlib.Core.Path.{◌≡◌, refl, sym, ap, ◌∙◌}
 use mathlib.Core.Bool.{Bool, true, false}
 use mathlib.Core.List.{List, [], ◌∷◌, map}
@@ -32,7 +32,7 @@ use Rattle.rows.specs.declared.Reason.{Reason}
 use Rattle.rows.specs.declared.Reason.TheVariants.{Full, HandlesUsedUp}
 use Rattle.rows.specs.Rows.{space_for, row_of, inserted_slot, Inserted}
 use Rattle.changes.specs.declared.Stop.TheVariants.{Failed}
-use Rattle.changes.specs.Steps.{Step, reason_meant, fails, Acts, values_in}
+use Rattle.changes.specs.Steps.{reason_meant, fails, Acts, values_in}
 use Rattle.changes.proofs.Moving.{Moves, moves-none, moves-one, moves_next, moves-running, moves-acts}
 
 -- ---- The operations
@@ -227,15 +227,13 @@ module _ {xs zs : List ℕ} {table n i : ℕ} (run : Running xs) (t : table ≤ 
 -- ---- No space
 
 module _ {xs : List ℕ} (table n : ℕ) (run : Running xs) (sized : n ≡ low32_at xs WORKED) where
-  pub inserting-fails : (reason : Reason) → space_for (length (table_at xs LIVE)) (low32_at xs NEXT) n ≡ Err reason
-      → (out : Step) → IsErrAnd out (λ stop. stop ≡ Failed reason) → Acts xs xs (insert_all table (values_in xs)) out
+  pub inserting-fails : {reason : Reason} → space_for (length (table_at xs LIVE)) (low32_at xs NEXT) n ≡ Err reason
+      → Acts xs xs (insert_all table (values_in xs)) (Err (Failed reason))
   unfolding result_of Actions.fails
-  inserting-fails reason e (Ok t) is = absurd is
-  inserting-fails reason e (Err stop) is =
-      rw is
-      (record {
+  inserting-fails {reason} e =
+      record {
         laid = run.represents.laid;
         shown = refl;
         beyond = kept_refl;
         follows = λ tables start s r p. rw (insert_all-space table n sized p, e) (fails {r = reason} {os = []} (rw (made_all-none s) p));
-      })
+      }

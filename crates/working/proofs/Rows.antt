@@ -1,5 +1,5 @@
 -- The loop over the chosen rows: the rows worked out so far, then what those that are left give, are what all of them give. Only the table of rows worked out changes, and the chosen rows stand below it.
-use Rattle.std.specs.Prelude.{Result, Ok, Err, IsErrAnd}
+use Rattle.std.specs.Prelude.{Result, Ok, Err}
 use mathlib.Core.Path.{◌≡◌, refl, sym, ap, ◌∙◌}
 use mathlib.Core.List.{List, [], ◌∷◌, ◌++◌, append-nil, append_assoc}
 use mathlib.Core.Option.{Option, none, some}
@@ -207,10 +207,9 @@ module _ {x0 x : List ℕ} {es : List Expression} {mask i : ℕ} (t : Turning x0
             }
 
         -- a sum that leaves 32 bits
-        pub turning-out : {xs : List ℕ} → Laid xs → Holds WORKED ROWS xs x0 [] → (reason : Reason) → r ≡ Err reason
-            → (out : Result (Unit {0}) Reason) → IsErrAnd out (λ a. a ≡ reason) → WorkedOut xs z es mask out
+        pub turning-out : {xs : List ℕ} {reason : Reason} → Laid xs → Holds WORKED ROWS xs x0 [] → r ≡ Err reason
+            → WorkedOut xs z es mask (Err reason)
         unfolding rows_meant following if_worked
-        turning-out laid h reason e (Ok t) s = absurd s
-        turning-out laid h reason e (Err a) s =
+        turning-out laid h e =
             let is : none ≡ worked_row es mask (row_meant (get_or (table_at y CHOSEN) i blank)) = rw e at w.row in
-            turning-failed laid h es mask turning-works (t.list ∙ rw (rest, ← is)) (s ∙ rw e at w.stopped)
+            turning-failed laid h es mask turning-works (t.list ∙ rw (rest, ← is)) (rw e at w.stopped)

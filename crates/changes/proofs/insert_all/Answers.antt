@@ -1,14 +1,15 @@
 -- `changes::insert_all` meets its contract: without space it changes nothing, and otherwise before each turn the rows so far are inserted.
 use mathlib.Core.Path.{sym, ◌∙◌}
 use native.Mathlib.Omega.{arith}
+use Rattle.std.proofs.lemmas.Result.{err_from_is_err_and}
 use Rattle.changes.proofs.Inserting.{inserting-start, inserting-running, inserting-within, inserting-room}
 use Rattle.changes.proofs.Inserting.{inserting-handles, inserting-joinable, inserting-next, inserting-done, inserting-fails}
 use Rattle.changes.proofs.insert_all.Goals as goal
 
 pub returns-in_err-space_for : goal.returns-in_err-space_for
 returns-in_err-space_for c =
-    inserting-fails _ _ c.requires.running c.size-n.ensures _ (sym c.space_for.ensures ∙ c.in_err-space_for.was)
-    c.from_residual.result c.from_residual.ensures.1
+    let is = err_from_is_err_and c.from_residual.result c.from_residual.ensures.1 in
+    rw (is.1, is.2) (inserting-fails _ _ c.requires.running c.size-n.ensures (sym c.space_for.ensures ∙ c.in_err-space_for.was))
 
 pub loop-i-init : goal.loop-i-init
 loop-i-init c = inserting-start _ _

@@ -1,6 +1,7 @@
 -- `working::work_out_all` meets its contract. The loop's invariant: the rows worked out so far, then what those that are left give, are
 -- what all chosen rows give; the room is as it was but for the rows worked out.
 use native.Mathlib.Omega.{arith}
+use Rattle.std.proofs.lemmas.Result.{err_from_is_err_and}
 use Rattle.working.proofs.Rows.{turning-start, turning-done, turning-stands, turning-within}
 use Rattle.working.proofs.Rows.{turning-room, turning-ready, turning-more, turning-out}
 use Rattle.working.proofs.work_out_all.Goals as goal
@@ -19,8 +20,10 @@ work_out_row-requires-clause-as_chosen c =
 
 pub returns-in_err-work_out_row : goal.returns-in_err-work_out_row
 returns-in_err-work_out_row c =
-    turning-out c.loop-i.invariant (rw c.size-i-end.ensures at c.loop-i-test.true) c.push_from.ensures c.work_out_row.ensures
-    c.requires.laid c.empty.ensures _ c.in_err-work_out_row.was c.from_residual.result c.from_residual.ensures.1
+    let is = err_from_is_err_and c.from_residual.result c.from_residual.ensures.1 in
+    rw (is.1, is.2)
+    (turning-out c.loop-i.invariant (rw c.size-i-end.ensures at c.loop-i-test.true) c.push_from.ensures c.work_out_row.ensures
+    c.requires.laid c.empty.ensures c.in_err-work_out_row.was)
 
 pub loop-i-preserved : goal.loop-i-preserved
 loop-i-preserved c =
