@@ -1,9 +1,10 @@
 -- The loop that inserts: where there is space for all rows worked out, the i-th is inserted with the i-th handle from the next one on.
-use Rattle.std.specs.Prelude.{if◌then◌else◌}
+use Rattle.std.specs.Prelude.{if◌then◌else◌, Ok, Err, Result as RustResult}
 use mathlib.Core.Path.{◌≡◌, refl, sym, ap, ◌∙◌}
 use mathlib.Core.Bool.{Bool, true, false}
 use mathlib.Core.List.{List, [], ◌∷◌, map}
-use Prim.Native.Nat.{ℕ, zero, suc, ◌+◌, ◌-◌, ◌≤◌, ◌<◌}
+use Prim.Native.Nat.{ℕ, zero, suc, ◌+◌, ◌≤◌, ◌<◌}
+use native.Mathlib.Numerals.{add-one}
 use native.Mathlib.Omega.{arith}
 use lib.IntN.{ℤ}
 use lib.Dec.{ltb}
@@ -27,13 +28,12 @@ use Rattle.room.specs.Represents.{Represents, Running}
 use Rattle.room.proofs.Kept.{kept_refl, table_kept}
 use Rattle.room.proofs.Fitting.{proper-slot, live-length, fits-insert}
 use Rattle.room.proofs.Steps.{made_all-none, says-insert, joinable, turned-insert}
-use Rattle.rows.specs.declared.Space.{Space}
-use Rattle.rows.specs.declared.Space.TheVariants.{Enough, Full, UsedUp}
+use Rattle.rows.specs.declared.Reason.{Reason}
+use Rattle.rows.specs.declared.Reason.TheVariants.{Full, HandlesUsedUp}
 use Rattle.rows.specs.Rows.{space_for, row_of, inserted_slot, Inserted}
-use Rattle.changes.specs.declared.Reason.TheVariants as reason
-use Rattle.changes.specs.declared.Step.TheVariants.{Went, Failed}
-use Rattle.changes.specs.Steps.{fails, Acts, values_in}
-use Rattle.changes.proofs.Moving.{Moves, moves-none, moves-one, moves_next, moves-running, moves-acts, turn}
+use Rattle.changes.specs.declared.Stop.TheVariants.{Failed}
+use Rattle.changes.specs.Steps.{reason_meant, fails, Acts, values_in}
+use Rattle.changes.proofs.Moving.{Moves, moves-none, moves-one, moves_next, moves-running, moves-acts}
 
 -- ---- The operations
 
@@ -74,10 +74,9 @@ values_length xs = length-map (table_at xs WORKED) (λ e. (row_meant e).values) 
 
 -- ---- What the specification says, by the space there is
 
-unfoldable result_of : Space → List RowOperation → Result
-result_of Full os = Actions.fails full
-result_of UsedUp os = Actions.fails handles_used_up
-result_of Enough os = went os
+unfoldable result_of : RustResult (Unit {0}) Reason → List RowOperation → Result
+result_of (Ok t) os = went os
+result_of (Err r) os = Actions.fails (reason_meant r)
 
 insert_all-by : (t : ℕ) (vss : List (List ℤ)) (m : Image)
     → insert_all t vss m ≡ result_of (space_for (length m.rows) m.next (length vss)) (map inserts (new_rows t m.next vss))
@@ -88,7 +87,7 @@ insert_all-by t vss m = go (ltb most_rows (length m.rows + length vss)) (ltb las
     os = map inserts (new_rows t m.next vss)
 
     go : (a b : Bool) → (if a then Actions.fails full else if b then Actions.fails handles_used_up else went os)
-        ≡ result_of (if a then Full else if b then UsedUp else Enough) os
+        ≡ result_of (if a then Err Full else if b then Err HandlesUsedUp else Ok tt) os
     go true b = refl
     go false true = refl
     go false false = refl
@@ -140,18 +139,17 @@ inserted-proper xs bytes table t base i =
 
 -- ---- The loop
 
-pub record Inserting (xs zs : List ℕ) (table n left : ℕ) : Type 0 where
-  pub few : left ≤ n
-  pub moves : Moves xs zs (take (n - left) (insertions xs table))
-  pub live : length (table_at zs LIVE) ≡ length (table_at xs LIVE) + (n - left)
-  pub next : low32_at zs NEXT ≡ low32_at xs NEXT + (n - left)
+pub record Inserting (xs zs : List ℕ) (table i : ℕ) : Type 0 where
+  pub moves : Moves xs zs (take i (insertions xs table))
+  pub live : length (table_at zs LIVE) ≡ length (table_at xs LIVE) + i
+  pub next : low32_at zs NEXT ≡ low32_at xs NEXT + i
 
 -- there is space for all
 record Roomy (xs : List ℕ) (n : ℕ) : Type 0 where
   live : length (table_at xs LIVE) + n ≤ most_rows
   next : low32_at xs NEXT + n ≤ last_handle
 
-space-roomy : (xs : List ℕ) (n : ℕ) → space_for (length (table_at xs LIVE)) (low32_at xs NEXT) n ≡ Enough → Roomy xs n
+space-roomy : (xs : List ℕ) (n : ℕ) → space_for (length (table_at xs LIVE)) (low32_at xs NEXT) n ≡ Ok tt → Roomy xs n
 unfolding space_for
 space-roomy xs n e = go (ltb most_rows live) refl (ltb last_handle next) refl e
   where
@@ -162,19 +160,17 @@ space-roomy xs n e = go (ltb most_rows live) refl (ltb last_handle next) refl e
     next = low32_at xs NEXT + n
 
     go : (a : Bool) → ltb most_rows live ≡ a → (b : Bool) → ltb last_handle next ≡ b
-        → (if a then Full else if b then UsedUp else Enough) ≡ Enough → Roomy xs n
+        → (if a then Err Full else if b then Err HandlesUsedUp else Ok (tt {0})) ≡ Ok (tt {0}) → Roomy xs n
     go true p b q e = absurd (let z : ◌≡◌ {A = ℕ} 0 1 = cc in omega arith)
     go false p true q e = absurd (let z : ◌≡◌ {A = ℕ} 0 1 = cc in omega arith)
     go false p false q e = record { live = ltb-false most_rows live p; next = ltb-false last_handle next q }
 
-pub inserting-start : (xs : List ℕ) (table n : ℕ) → Inserting xs xs table n n
-inserting-start xs table n =
-    let z : n - n ≡ 0 = omega arith in
-    record { few = omega arith; moves = rw z moves-none; live = omega arith; next = omega arith }
+pub inserting-start : (xs : List ℕ) (table : ℕ) → Inserting xs xs table 0
+inserting-start xs table = record { moves = moves-none; live = omega arith; next = omega arith }
 
-module _ {xs zs : List ℕ} {table n left : ℕ} (run : Running xs) (t : table ≤ 3)
-    (sized : n ≡ low32_at xs WORKED) (space : space_for (length (table_at xs LIVE)) (low32_at xs NEXT) n ≡ Enough)
-    (inv : Inserting xs zs table n left) where
+module _ {xs zs : List ℕ} {table n i : ℕ} (run : Running xs) (t : table ≤ 3)
+    (sized : n ≡ low32_at xs WORKED) (space : space_for (length (table_at xs LIVE)) (low32_at xs NEXT) n ≡ Ok tt)
+    (inv : Inserting xs zs table i) where
   pub inserting-running : Running zs
   inserting-running = moves-running run inv.moves
 
@@ -182,76 +178,62 @@ module _ {xs zs : List ℕ} {table n left : ℕ} (run : Running xs) (t : table �
   unfolding table_bytes
   worked_same = table_kept inv.moves.between WORKED ROWS run.represents.laid.worked (omega arith) (omega arith)
 
-  pub inserting-within : 0 < left → n - left < low32_at zs WORKED
-  inserting-within b =
-      omega (arith, inv.few, table-length zs WORKED, table-length xs WORKED, ap length worked_same)
+  pub inserting-within : i < n → i < low32_at zs WORKED
+  inserting-within b = omega (arith, table-length zs WORKED, table-length xs WORKED, ap length worked_same)
 
-  module _ (some : 0 < left) {e : Slot} {k : ℕ} (read : e ≡ get_or (table_at zs WORKED) (n - left) blank)
+  module _ (some : i < n) {e : Slot} {k : ℕ} (read : e ≡ get_or (table_at zs WORKED) i blank)
       (narrowed : table ≤ 255 → k ≡ table) where
     proper : Proper (row_meant (inserted_slot zs k e))
     proper =
         let q : k ≡ table = narrowed (omega arith) in
-        rw (read, q) (inserted-proper zs inserting-running.represents.bytes table t WORKED (n - left))
+        rw (read, q) (inserted-proper zs inserting-running.represents.bytes table t WORKED i)
 
     pub inserting-room : length (table_at zs LIVE) < ROWS
-    inserting-room = let r = space-roomy xs n space in omega (arith, inv.few, inv.live, r.live)
+    inserting-room = let r = space-roomy xs n space in omega (arith, inv.live, r.live)
 
     pub inserting-handles : low32_at zs NEXT < last_handle
-    inserting-handles = let r = space-roomy xs n space in omega (arith, inv.few, inv.next, r.next)
+    inserting-handles = let r = space-roomy xs n space in omega (arith, inv.next, r.next)
 
     pub inserting-joinable : Joinable zs (as_effect 1 0 (inserted_slot zs k e))
     inserting-joinable = insert-joinable k e proper inserting-room inserting-handles inserting-running
 
-    is-next : get_or (insertions xs table) (n - left) nothing ≡ inserts (row_meant (inserted_slot zs k e))
+    is-next : get_or (insertions xs table) i nothing ≡ inserts (row_meant (inserted_slot zs k e))
     unfolding inserted_slot
     is-next =
         let q : k ≡ table = narrowed (omega arith) in
-        let b : n - left < length (table_at xs WORKED) = omega (arith, inv.few, table-length xs WORKED) in
-        insertion-at xs table (n - left) b ∙ rw (read, q, worked_same, inv.next)
+        let b : i < length (table_at xs WORKED) = omega (arith, table-length xs WORKED) in
+        insertion-at xs table i b ∙ rw (read, q, worked_same, inv.next)
 
-    pub inserting-next : {ws : List ℕ} → Bytes ws → Inserted zs ws k e → Inserting xs ws table n (left - 1)
+    pub inserting-next : {ws : List ℕ} → Bytes ws → Inserted zs ws k e → Inserting xs ws table (i + 1)
     inserting-next {ws} bytes t' =
-        let b : n - left < length (insertions xs table) = omega (arith, inv.few, table-length xs WORKED, insertions-length xs table) in
-        let u = turn inv.few some in
+        let b : i < length (insertions xs table) = omega (arith, table-length xs WORKED, insertions-length xs table) in
         let l : length (table_at ws LIVE) ≡ length (table_at zs LIVE) + 1 = ap length t'.rows ∙ simp length-append in
         record {
-          few = omega (arith, inv.few);
           moves =
-              rw u
-              (moves_next (insertions xs table) (n - left) nothing (inserts (row_meant (inserted_slot zs k e))) b is-next inv.moves
+              rw add-one
+              (moves_next (insertions xs table) i nothing (inserts (row_meant (inserted_slot zs k e))) b is-next inv.moves
               (insert-moves k e proper inserting-room inserting-handles bytes t'));
           live = omega (arith, inv.live);
           next = omega (arith, t'.handle, inv.next);
         }
 
-  pub inserting-done : left ≤ 0 → Acts xs zs (insert_all table (values_in xs)) Went
+  pub inserting-done : n ≤ i → Acts xs zs (insert_all table (values_in xs)) (Ok tt)
   unfolding result_of
   inserting-done none =
-      let all : take (n - left) (insertions xs table) ≡ insertions xs table =
-      take_all (n - left) (insertions xs table) (omega (arith, table-length xs WORKED, insertions-length xs table)) in
+      let all : take i (insertions xs table) ≡ insertions xs table =
+      take_all i (insertions xs table) (omega (arith, table-length xs WORKED, insertions-length xs table)) in
       moves-acts (insertions xs table) run (rw all at inv.moves) (λ tables s p. insert_all-space table n sized p ∙ rw space)
 
 -- ---- No space
 
 module _ {xs : List ℕ} (table n : ℕ) (run : Running xs) (sized : n ≡ low32_at xs WORKED) where
-  pub full-acts : space_for (length (table_at xs LIVE)) (low32_at xs NEXT) n ≡ Full
-      → Acts xs xs (insert_all table (values_in xs)) (Failed reason.Full)
+  pub inserting-fails : {reason : Reason} → space_for (length (table_at xs LIVE)) (low32_at xs NEXT) n ≡ Err reason
+      → Acts xs xs (insert_all table (values_in xs)) (Err (Failed reason))
   unfolding result_of Actions.fails
-  full-acts e =
+  inserting-fails {reason} e =
       record {
         laid = run.represents.laid;
         shown = refl;
         beyond = kept_refl;
-        follows = λ tables start s r p. rw (insert_all-space table n sized p, e) (fails {r = reason.Full} {os = []} (rw (made_all-none s) p));
-      }
-
-  pub used-up-acts : space_for (length (table_at xs LIVE)) (low32_at xs NEXT) n ≡ UsedUp
-      → Acts xs xs (insert_all table (values_in xs)) (Failed reason.HandlesUsedUp)
-  unfolding result_of Actions.fails
-  used-up-acts e =
-      record {
-        laid = run.represents.laid;
-        shown = refl;
-        beyond = kept_refl;
-        follows = λ tables start s r p. rw (insert_all-space table n sized p, e) (fails {r = reason.HandlesUsedUp} {os = []} (rw (made_all-none s) p));
+        follows = λ tables start s r p. rw (insert_all-space table n sized p, e) (fails {r = reason} {os = []} (rw (made_all-none s) p));
       }

@@ -1,8 +1,9 @@
 -- Operations made one after another on the room: each leads from a room that represents a state to one that represents the state after it,
 -- and leaves the transition tables, the chosen rows and those worked out as they were. So all of an action's operations do.
+use Rattle.std.specs.Prelude.{Ok}
 use mathlib.Core.Path.{◌≡◌}
 use mathlib.Core.List.{List, [], ◌∷◌, ◌++◌}
-use Prim.Native.Nat.{ℕ, suc, ◌-◌, ◌≤◌, ◌<◌}
+use Prim.Native.Nat.{ℕ, suc, ◌<◌}
 use native.Mathlib.Omega.{arith}
 use lib.ListN.{length, get_or, take}
 use lib.Seq.{take-suc}
@@ -18,7 +19,6 @@ use Rattle.room.specs.Turned.{Turned}
 use Rattle.room.specs.Represents.{Represents, Reached, Running, made_one, made_all}
 use Rattle.room.proofs.Kept.{kept_refl, kept_trans, transition-kept}
 use Rattle.room.proofs.Steps.{made_all-none, made_all-one, made_all-append, reached-all}
-use Rattle.changes.specs.declared.Step.TheVariants.{Went}
 use Rattle.changes.specs.Steps.{goes_on, Acts}
 
 -- operations fit the image of a state, and a room represents the state after them
@@ -84,7 +84,7 @@ moves-running {os = os} run f =
     }
 
 pub moves-acts : {xs ys : List ℕ} (os : List RowOperation) {f : Image → Result} → Running xs
-    → Moves xs ys os → ((tables : List ℕ) (s : State) → Represents xs tables s → f s.image ≡ went os) → Acts xs ys f Went
+    → Moves xs ys os → ((tables : List ℕ) (s : State) → Represents xs tables s → f s.image ≡ went os) → Acts xs ys f (Ok tt)
 moves-acts os run m is =
     record {
       laid = (moves-running run m).represents.laid;
@@ -92,7 +92,3 @@ moves-acts os run m is =
       beyond = m.beyond;
       follows = λ tables start s r p. rw (is tables s p) (goes_on (m.leads tables start s r p).represents);
     }
-
--- one less is left: one more is done
-pub turn : {n left : ℕ} → left ≤ n → 0 < left → n - (left - 1) ≡ suc (n - left)
-turn a b = omega arith

@@ -1,9 +1,11 @@
 -- The loops that delete and update: rows taken from the live ones by rising handle are still live when their turn comes, for an operation
 -- moves only the row of its own handle.
+use Rattle.std.specs.Prelude.{Result, Ok, Err, Some}
+use Rattle.std.specs.Result.{IsOk}
 use mathlib.Core.Path.{◌≡◌, refl, sym, ap, ◌∙◌}
 use mathlib.Core.List.{List, [], ◌∷◌, map}
 use mathlib.Core.Option.{some}
-use Prim.Native.Nat.{ℕ, zero, suc, ◌+◌, ◌-◌, ◌≤◌, ◌<◌}
+use Prim.Native.Nat.{ℕ, zero, suc, ◌+◌, ◌≤◌, ◌<◌}
 use native.Mathlib.Numerals.{add-one}
 use native.Mathlib.Omega.{arith}
 use lib.IntN.{ℤ}
@@ -29,13 +31,10 @@ use Rattle.room.proofs.Kept.{table_kept}
 use Rattle.room.proofs.Live.{Place, rows-length, row-found}
 use Rattle.room.proofs.Fitting.{proper-slot, fits-delete, fits-update}
 use Rattle.room.proofs.Steps.{says-delete, says-update, joinable, turned-delete, turned-update}
-use Rattle.rows.specs.declared.Looked.{Looked}
-use Rattle.rows.specs.declared.Looked.TheVariants.{Made, NoSuchRow}
+use Rattle.rows.specs.declared.Reason.{Reason}
 use Rattle.rows.specs.Rows.{operation_at, CanJoin, Deleted, Updated}
-use Rattle.slots.specs.declared.Found.TheVariants.{At}
-use Rattle.changes.specs.declared.Step.TheVariants.{Went}
 use Rattle.changes.specs.Steps.{Acts, Rewritten, UpdatesAll}
-use Rattle.changes.proofs.Moving.{Leads, Moves, moves-none, moves-one, moves_next, moves-running, moves-acts, turn}
+use Rattle.changes.proofs.Moving.{Leads, Moves, moves-none, moves-one, moves_next, moves-running, moves-acts}
 
 -- ---- Rows that are taken
 
@@ -69,15 +68,20 @@ taken-after {xs} {ys} {rs} o run m c = go l.made
 
 -- ---- One delete and one update
 
-made-delete : {xs ys : List ℕ} (i : ℕ) (a : Looked) → Deleted xs ys (At i) a
-    → Turned xs ys (remove_at i (table_at xs LIVE)) (low32_at xs NEXT) (operation_at xs 2 0 i)
-made-delete i Made t = t
-made-delete i NoSuchRow t = absurd t
+-- a row that is found is deleted, and updated
+record Went (xs ys : List ℕ) (live : List Slot) (op : Slot) (a : Result (Unit {0}) Reason) : Type 0 where
+  is : IsOk a
+  turned : Turned xs ys live (low32_at xs NEXT) op
 
-made-update : {xs ys : List ℕ} (mask : ℕ) (new : Slot) (i : ℕ) (a : Looked) → Updated xs ys mask new (At i) a
-    → Turned xs ys (set (table_at xs LIVE) i new) (low32_at xs NEXT) (operation_at xs 3 mask i)
-made-update mask new i Made t = t
-made-update mask new i NoSuchRow t = absurd t
+went-delete : {xs ys : List ℕ} (i : ℕ) (a : Result (Unit {0}) Reason) → Deleted xs ys (Some i) a
+    → Went xs ys (remove_at i (table_at xs LIVE)) (operation_at xs 2 0 i) a
+went-delete i (Ok t) d = record { is = refl; turned = d }
+went-delete i (Err r) d = absurd d
+
+went-update : {xs ys : List ℕ} (mask : ℕ) (new : Slot) (i : ℕ) (a : Result (Unit {0}) Reason) → Updated xs ys mask new (Some i) a
+    → Went xs ys (set (table_at xs LIVE) i new) (operation_at xs 3 mask i) a
+went-update mask new i (Ok t) d = record { is = refl; turned = d }
+went-update mask new i (Err r) d = absurd d
 
 module _ {xs : List ℕ} (run : Running xs) (r : Row) (live : row_at r.handle (live_rows xs) ≡ some r) where
   place : Place r.handle (table_at xs LIVE) r
@@ -90,11 +94,15 @@ module _ {xs : List ℕ} (run : Running xs) (r : Row) (live : row_at r.handle (l
       (joinable run.reached run.represents (fits-delete run.reached run.represents place.at place.below)
       (says-delete (get_or (table_at xs LIVE) place.at blank)))
 
-  delete-moves : {ys : List ℕ} (a : Looked) → Bytes ys → Deleted xs ys (find_in r.handle (table_at xs LIVE)) a
+  delete-went : {ys : List ℕ} (a : Result (Unit {0}) Reason) → Deleted xs ys (find_in r.handle (table_at xs LIVE)) a
+      → Went xs ys (remove_at place.at (table_at xs LIVE)) (operation_at xs 2 0 place.at) a
+  delete-went a d = went-delete place.at a (rw place.found at d)
+
+  delete-moves : {ys : List ℕ} (a : Result (Unit {0}) Reason) → Bytes ys → Deleted xs ys (find_in r.handle (table_at xs LIVE)) a
       → Moves xs ys (deletes r ∷ [])
   unfolding operation_at
   delete-moves a bytes d =
-      let t = made-delete place.at a (rw place.found at d) in
+      let t = (delete-went a d).turned in
       rw (← place.means)
       (moves-one (deletes (row_meant (get_or (table_at xs LIVE) place.at blank))) t (λ tables start s q p.
       let fits = fits-delete q p place.at place.below in
@@ -112,11 +120,15 @@ module _ {xs : List ℕ} (run : Running xs) (r : Row) (live : row_at r.handle (l
         (fits-update run.reached run.represents place.at new place.below only-there proper)
         (says-update mask (get_or (table_at xs LIVE) place.at blank) new))
 
-    update-moves : {ys : List ℕ} (a : Looked) → Bytes ys → Updated xs ys mask new (find_in r.handle (table_at xs LIVE)) a
-        → Moves xs ys (updates mask r (row_meant new) ∷ [])
+    update-went : {ys : List ℕ} (a : Result (Unit {0}) Reason) → Updated xs ys mask new (find_in r.handle (table_at xs LIVE)) a
+        → Went xs ys (set (table_at xs LIVE) place.at new) (operation_at xs 3 mask place.at) a
+    update-went a d = went-update mask new place.at a (rw place.found at d)
+
+    update-moves : {ys : List ℕ} (a : Result (Unit {0}) Reason) → Bytes ys
+        → Updated xs ys mask new (find_in r.handle (table_at xs LIVE)) a → Moves xs ys (updates mask r (row_meant new) ∷ [])
     unfolding operation_at
     update-moves a bytes d =
-        let t = made-update mask new place.at a (rw place.found at d) in
+        let t = (update-went a d).turned in
         rw (← place.means)
         (moves-one (updates mask (row_meant (get_or (table_at xs LIVE) place.at blank)) (row_meant new)) t (λ tables start s q p.
         let fits = fits-update q p place.at new place.below only-there proper in
@@ -201,28 +213,29 @@ module _ {xs zs : List ℕ} {n i : ℕ} (run : Running xs) (sized : n ≡ low32_
   pub deleting-within : i < n → i < low32_at zs CHOSEN
   deleting-within b = omega (arith, table-length zs CHOSEN, table-length xs CHOSEN, ap length (chosen-same run inv))
 
-  module _ (within : i < n) {e : Slot} (read : e ≡ get_or (table_at zs CHOSEN) i blank) where
-    handle-is : e.handle ≡ (chosen_at xs i).handle
+  module _ (within : i < n) {handle : ℕ} (read : handle ≡ (get_or (table_at zs CHOSEN) i blank).handle) where
+    handle-is : handle ≡ (chosen_at xs i).handle
     unfolding chosen_at row_meant
-    handle-is =
-        let q : e ≡ get_or (table_at xs CHOSEN) i blank = rw (chosen-same run inv) at read in
-        ap (λ (x : Slot). x.handle) q
+    handle-is = rw (chosen-same run inv) at read
 
     chosen_live : row_at (chosen_at xs i).handle (live_rows zs) ≡ some (chosen_at xs i)
     chosen_live = (taking-first run inv (omega arith)).found
 
-    pub deleting-can : CanJoin zs 2 0 (find_in e.handle (table_at zs LIVE))
+    pub deleting-can : CanJoin zs 2 0 (find_in handle (table_at zs LIVE))
     deleting-can = rw handle-is (delete-can (taking-running run inv) (chosen_at xs i) chosen_live)
 
-    pub deleting-next : {ws : List ℕ} (a : Looked) → Bytes ws → Deleted zs ws (find_in e.handle (table_at zs LIVE)) a
-        → Taking xs ws (deletions xs) (i + 1)
-    unfolding deletions chosen_at handle_of
-    deleting-next a bytes d =
-        rw add-one
-        (taking-next run inv nothing (deletes (chosen_at xs i)) (omega arith) (deletions-length xs) (deletes-at i (table_at xs CHOSEN)) refl
-        (delete-moves (taking-running run inv) (chosen_at xs i) chosen_live a bytes (rw handle-is at d)))
+    module _ (ws : List ℕ) (a : Result (Unit {0}) Reason) (d : Deleted zs ws (find_in handle (table_at zs LIVE)) a) where
+      pub deleting-went : IsOk a
+      deleting-went = (delete-went (taking-running run inv) (chosen_at xs i) chosen_live a (rw handle-is at d)).is
 
-  pub deleting-done : n ≤ i → Acts xs zs (λ m. delete_all (rows_meant (table_at xs CHOSEN))) Went
+      pub deleting-next : Bytes ws → Taking xs ws (deletions xs) (i + 1)
+      unfolding deletions chosen_at handle_of
+      deleting-next bytes =
+          rw add-one
+          (taking-next run inv nothing (deletes (chosen_at xs i)) (omega arith) (deletions-length xs) (deletes-at i (table_at xs CHOSEN)) refl
+          (delete-moves (taking-running run inv) (chosen_at xs i) chosen_live a bytes (rw handle-is at d)))
+
+  pub deleting-done : n ≤ i → Acts xs zs (λ m. delete_all (rows_meant (table_at xs CHOSEN))) (Ok tt)
   unfolding deletions delete_all
   deleting-done all =
       moves-acts (deletions xs) run (taking-all run inv (omega arith) (deletions-length xs)) (λ tables s p. refl)
@@ -296,39 +309,26 @@ module _ {xs : List ℕ} {mask : ℕ} (w : Rewritten xs mask) where
       rw (← rows_at i (table_at xs CHOSEN), ← rows_at i (table_at xs WORKED), w.rows)
       (with-only mask i (row_meant blank) rs w.values (w.each ∙ sym l) h)
 
--- those left are counted down
-pub record Updating (xs zs : List ℕ) (mask n left : ℕ) : Type 0 where
-  pub few : left ≤ n
-  pub taking : Taking xs zs (rewrites xs mask) (n - left)
-
-pub updating-start : {xs : List ℕ} (mask n : ℕ) → Taken (live_rows xs) 0 (rows_meant (table_at xs CHOSEN))
-    → Updating xs xs mask n n
-updating-start {xs} mask n c =
-    let z : n - n ≡ 0 = omega arith in
-    record { few = omega arith; taking = rw z (taking-start (rewrites xs mask) c) }
-
-module _ {xs zs : List ℕ} {mask n left : ℕ} (run : Running xs) (small : mask ≤ 15) (w : Rewritten xs mask)
-    (sized_worked : n ≡ low32_at xs WORKED) (inv : Updating xs zs mask n left) where
+module _ {xs zs : List ℕ} {mask n i : ℕ} (run : Running xs) (small : mask ≤ 15) (w : Rewritten xs mask)
+    (sized_worked : n ≡ low32_at xs WORKED) (inv : Taking xs zs (rewrites xs mask) i) where
   sized : n ≡ low32_at xs CHOSEN
   sized = sized-chosen w sized_worked
 
-  pub updating-running : Running zs
-  updating-running = taking-running run inv.taking
+  running : Running zs
+  running = taking-running run inv
 
-  pub updating-within : 0 < left → n - left < low32_at zs WORKED
-  updating-within b =
-      omega (arith, inv.few, table-length zs WORKED, table-length xs WORKED, ap length (worked_same run inv.taking))
+  pub updating-within : i < n → i < low32_at zs WORKED
+  updating-within b = omega (arith, table-length zs WORKED, table-length xs WORKED, ap length (worked_same run inv))
 
-  module _ (some : 0 < left) {e : Slot} {k : ℕ} (read : e ≡ get_or (table_at zs WORKED) (n - left) blank)
-      (narrowed : mask ≤ 255 → k ≡ mask) where
-    within : n - left < low32_at xs CHOSEN
-    within = omega (arith, inv.few, sized)
+  module _ (some : i < n) {e : Slot} {k : ℕ} (read : e ≡ get_or (table_at zs WORKED) i blank) (narrowed : mask ≤ 255 → k ≡ mask) where
+    within : i < low32_at xs CHOSEN
+    within = omega (arith, sized)
 
-    old : First (live_rows zs) (chosen_at xs (n - left)) (drop (suc (n - left)) (rows_meant (table_at xs CHOSEN)))
-    old = taking-first run inv.taking within
+    old : First (live_rows zs) (chosen_at xs i) (drop (suc i) (rows_meant (table_at xs CHOSEN)))
+    old = taking-first run inv within
 
-    only : OnlyIn mask (chosen_at xs (n - left)) (row_meant e)
-    only = rw (read, worked_same run inv.taking) (only-columns w (n - left) (omega (arith, within, table-length xs CHOSEN)))
+    only : OnlyIn mask (chosen_at xs i) (row_meant e)
+    only = rw (read, worked_same run inv) (only-columns w i (omega (arith, within, table-length xs CHOSEN)))
 
     proper : Proper (row_meant e)
     unfolding row_meant
@@ -336,40 +336,41 @@ module _ {xs zs : List ℕ} {mask n left : ℕ} (run : Running xs) (small : mask
         let p = old.proper.table_fits in
         let q = only.same_table in
         let t : e.table ≤ 3 = omega arith in
-        proper-slot {e = e} (rw read (table_fits_lem zs updating-running.represents.bytes WORKED (n - left))) t
+        proper-slot {e = e} (rw read (table_fits_lem zs running.represents.bytes WORKED i)) t
 
     mask_is : k ≡ mask
     mask_is = narrowed (omega arith)
 
-    found-same : find_in e.handle (table_at zs LIVE) ≡ find_in (chosen_at xs (n - left)).handle (table_at zs LIVE)
+    found-same : find_in e.handle (table_at zs LIVE) ≡ find_in (chosen_at xs i).handle (table_at zs LIVE)
     unfolding row_meant
     found-same = ap (λ (h : ℕ). find_in h (table_at zs LIVE)) only.same_handle
 
     pub updating-can : CanJoin zs 3 k (find_in e.handle (table_at zs LIVE))
-    updating-can =
-        rw (found-same, mask_is) (update-can updating-running (chosen_at xs (n - left)) old.found mask e only proper)
+    updating-can = rw (found-same, mask_is) (update-can running (chosen_at xs i) old.found mask e only proper)
 
-    pub updating-next : {ws : List ℕ} (a : Looked) → Bytes ws → Updated zs ws k e (find_in e.handle (table_at zs LIVE)) a
-        → Updating xs ws mask n (left - 1)
-    unfolding rewrites chosen_at handle_of
-    updating-next a bytes d =
-        let r = chosen_at xs (n - left) in
-        let b : n - left < length (table_at xs CHOSEN) = omega (arith, within, table-length xs CHOSEN) in
-        let is = updates-at mask (n - left) (table_at xs CHOSEN) (table_at xs WORKED) (as_many_lem w) b in
-        record {
-          few = omega (arith, inv.few);
-          taking =
-              rw (turn inv.few some)
-              (taking-next run inv.taking nothing (updates mask r (row_meant e)) within (rewrites-length w)
-              (is ∙ rw (read, worked_same run inv.taking)) refl
-              (update-moves updating-running r old.found mask e only proper a bytes (rw (found-same, mask_is) at d)));
-        }
+    module _ (ws : List ℕ) (a : Result (Unit {0}) Reason) (d : Updated zs ws k e (find_in e.handle (table_at zs LIVE)) a) where
+      as_found : Updated zs ws mask e (find_in (chosen_at xs i).handle (table_at zs LIVE)) a
+      as_found = rw (found-same, mask_is) at d
 
-  pub updating-done : left ≤ 0 → UpdatesAll xs zs mask
+      pub updating-went : IsOk a
+      updating-went = (update-went running (chosen_at xs i) old.found mask e only proper a as_found).is
+
+      pub updating-next : Bytes ws → Taking xs ws (rewrites xs mask) (i + 1)
+      unfolding rewrites chosen_at handle_of
+      updating-next bytes =
+          let r = chosen_at xs i in
+          let b : i < length (table_at xs CHOSEN) = omega (arith, within, table-length xs CHOSEN) in
+          let is = updates-at mask i (table_at xs CHOSEN) (table_at xs WORKED) (as_many_lem w) b in
+          rw add-one
+          (taking-next run inv nothing (updates mask r (row_meant e)) within (rewrites-length w)
+          (is ∙ rw (read, worked_same run inv)) refl
+          (update-moves running r old.found mask e only proper a bytes as_found))
+
+  pub updating-done : n ≤ i → UpdatesAll xs zs mask
   unfolding rewrites update_all
-  updating-done none =
+  updating-done all =
       record {
         acts = λ vss each rows.
-            moves-acts (rewrites xs mask) run (taking-all run inv.taking (omega (arith, sized)) (rewrites-length w)) (λ tables s p.
+            moves-acts (rewrites xs mask) run (taking-all run inv (omega (arith, sized)) (rewrites-length w)) (λ tables s p.
             ap went (updates_to-with mask (rows_meant (table_at xs CHOSEN)) vss ∙ rw rows));
       }

@@ -1,6 +1,7 @@
 -- The loop that works out one row in the room: worked row i alone changes, and as the chosen rows stand below it, the expressions are
 -- worked out over what chosen row i was at the start. A value stored in a column is that of the row that is filled.
-use mathlib.Core.Path.{◌≡◌, sym, ap, ◌∙◌}
+use Rattle.std.specs.Prelude.{Ok, Err}
+use mathlib.Core.Path.{◌≡◌, refl, sym, ap, ◌∙◌}
 use mathlib.Core.Bool.{true, false}
 use mathlib.Core.List.{List}
 use mathlib.Core.Option.{Option, none, some}
@@ -21,8 +22,9 @@ use Rattle.slots.specs.declared.Slot.{Slot}
 use Rattle.slots.specs.Slots.{table_at, table_bytes, Stands, Holds, blank, with_value}
 use Rattle.slots.proofs.Frames.{frame-refl, frame-trans, word-kept-below}
 use Rattle.slots.proofs.Tables.{table-length, table-kept-below, stands-kept-below}
+use Rattle.rows.specs.declared.Reason.TheVariants.{SumOutOfRange}
 use Rattle.room.specs.Room.{CHOSEN, WORKED, ROWS, row_meant}
-use Rattle.working.specs.Working.{worked_row, Works, AsChosen, RowWorked}
+use Rattle.working.specs.Working.{worked_row, if_worked, Works, AsChosen, RowWorked}
 use Rattle.working.proofs.Expressions.{Working, working-start, working-done, working-bad, working-unset, working-out, working-set}
 
 -- ---- What changes
@@ -93,13 +95,14 @@ module _ (book : List ℕ) (mask : ℕ) where
   module _ {x0 x : List ℕ} {at i here c : ℕ} (f : Storing x0 x book mask at i here c) where
     -- the row is done after the last column, and where an expression cannot be read
     stored : some (row_meant (get_or (table_at x WORKED) i blank)) ≡ wanted x0 book mask at i
-        → RowWorked x0 x (readable (ones mask) expression book at) mask i true
-    stored q = record { works = f.changed.works; others = f.changed.others; row = q }
+        → RowWorked x0 x (readable (ones mask) expression book at) mask i (Ok tt)
+    unfolding if_worked
+    stored q = record { works = f.changed.works; others = f.changed.others; row = q; stopped = tt }
 
-    pub storing-done : mask ≤ 15 → 4 ≤ c → RowWorked x0 x (readable (ones mask) expression book at) mask i true
+    pub storing-done : mask ≤ 15 → 4 ≤ c → RowWorked x0 x (readable (ones mask) expression book at) mask i (Ok tt)
     storing-done small h = stored (working-done book mask f.working small h)
 
-    pub storing-bad : expression book here ≡ bad → RowWorked x0 x (readable (ones mask) expression book at) mask i true
+    pub storing-bad : expression book here ≡ bad → RowWorked x0 x (readable (ones mask) expression book at) mask i (Ok tt)
     storing-bad e = stored (working-bad book mask f.working e)
 
     module _ (h : c < 4) where
@@ -111,12 +114,14 @@ module _ (book : List ℕ) (mask : ℕ) where
         over : (m : Option ℤ) → m ≡ work_out (chosen_row x i) w → m ≡ work_out (chosen_row x0 i) w
         over m n = rw (← changed-chosen f.changed) n
 
-        pub storing-out : none ≡ work_out (chosen_row x i) w → RowWorked x0 x (readable (ones mask) expression book at) mask i false
+        pub storing-out : none ≡ work_out (chosen_row x i) w → RowWorked x0 x (readable (ones mask) expression book at) mask i (Err SumOutOfRange)
+        unfolding if_worked
         storing-out n =
             record {
               works = f.changed.works;
               others = f.changed.others;
               row = working-out book mask f.working h e q (over none n);
+              stopped = refl;
             }
 
         pub storing-set : {y : List ℕ} (v : ℕ) → some (signed v) ≡ work_out (chosen_row x i) w

@@ -1,5 +1,6 @@
 -- The loop that fills a row with values: the values still to come stand in the slice, and the row filled with them is the row wanted.
 -- Where n values stand, n are read.
+use Rattle.std.specs.Prelude.{None}
 use mathlib.Core.Path.{◌≡◌, sym, ap, ◌∙◌}
 use mathlib.Core.Bool.{true, false}
 use mathlib.Core.List.{List, [], ◌∷◌}
@@ -16,7 +17,6 @@ use Rattle.meaning.specs.ByteLayouts.{value}
 use Rattle.meaning.specs.Values.{signed}
 use Rattle.meaning.specs.Processing.Actions.{masked, updated_row}
 use Rattle.words.specs.Words.{Bytes, word32_at, end_of, readable}
-use Rattle.words.specs.declared.End.TheVariants.{Short}
 use Rattle.words.proofs.Laws.{split, value_read, readable-more}
 use Rattle.fields.specs.Fields.{values_at}
 use Rattle.fields.proofs.Laws.{values-end-short}
@@ -29,7 +29,7 @@ use Rattle.working.proofs.Columns.{filled, filled-all, filled-done, filled-set, 
 -- ---- Values that stand in the slice
 
 module _ (s : List ℕ) (b : Bytes s) where
-  pub values-stand : (n at : ℕ) → (end_of (many n value s at) ≡ Short → ⊥) → 0 < n → at + n * 4 ≤ length s
+  pub values-stand : (n at : ℕ) → (end_of (many n value s at) ≡ None → ⊥) → 0 < n → at + n * 4 ≤ length s
   values-stand n at h l =
       split (ltb (length s) (at + n * 4))
       (λ e. absurd (h (values-end-short s b n at l (ltb-true (length s) (at + n * 4) e))))
@@ -50,7 +50,7 @@ module _ (s : List ℕ) (b : Bytes s) where
       ∙ rw (values-first 2 (at + 4) (omega arith), values-first 1 (at + 4 + 4) (omega arith), values-first 0 (at + 4 + 4 + 4) (omega arith))
 
   -- a value for each of the four columns, whatever stood there
-  pub four-values : (at : ℕ) → (end_of (many 4 value s at) ≡ Short → ⊥) → (e : Slot)
+  pub four-values : (at : ℕ) → (end_of (many 4 value s at) ≡ None → ⊥) → (e : Slot)
       → (updated_row 15 (values_at s (ones 15) at) (row_meant e)).values ≡ values_at s 4 at
   unfolding updated_row row_meant ones masked
   four-values at h e = rw (four at (values-stand 4 at h (omega arith)))
@@ -62,7 +62,7 @@ pub record Filling (s : List ℕ) (mask : ℕ) (whole : Row) (row : Slot) (here 
   pub is : whole ≡ filled mask c (values_at s (bits_from mask c) here) (row_meant row)
 
 module _ (s : List ℕ) (b : Bytes s) (mask : ℕ) where
-  pub filling-start : (at : ℕ) (e : Slot) → (end_of (many (ones mask) value s at) ≡ Short → ⊥)
+  pub filling-start : (at : ℕ) (e : Slot) → (end_of (many (ones mask) value s at) ≡ None → ⊥)
       → Filling s mask (updated_row mask (values_at s (ones mask) at) (row_meant e)) e at 0
   filling-start at e h =
       record {

@@ -84,7 +84,13 @@ fn work_out(room: &[u8], x: Expression, i: usize) -> Option<u32>
 
 // Worked row i, which is chosen row i so far, gets the value of an expression over the chosen row for
 // each set bit of a mask, lowest first.
-fn work_out_row(room: &mut [u8], book: &[u8], at: usize, mask: usize, i: usize) -> Result<(), Reason>
+fn work_out_row(
+    room: &mut [u8],
+    book: &[u8],
+    at: usize,
+    mask: usize,
+    i: usize,
+) -> Result<(), Reason>
     requires as_chosen { AsChosen room.old i }
     requires mask_bound { mask ≤ 15 }
     ensures { RowWorked room.old room.new (readable (ones mask) expression book.now at) mask i result }

@@ -2,45 +2,36 @@
 -- left are still live.
 use native.Mathlib.Omega.{arith}
 use Rattle.room.proofs.Live.{live-sorted}
-use Rattle.changes.proofs.Taking.{updating-start, updating-running, updating-within, updating-can}
-use Rattle.changes.proofs.Taking.{updating-next, updating-done}
+use Rattle.changes.proofs.Taking.{taking-start, taking-running, updating-within, updating-can, updating-went, updating-next}
+use Rattle.changes.proofs.Taking.{updating-done}
 use Rattle.changes.proofs.update_all.Goals as goal
 
-pub size-n-requires : goal.size-n-requires
-size-n-requires c = omega (arith, c.requires.running.represents.laid.long)
-
-pub loop-left-init : goal.loop-left-init
-loop-left-init c = updating-start _ _ c.requires.taken
-
-pub overflow_sub-n : goal.overflow_sub-n
-overflow_sub-n c = c.loop-left.invariant.few
+pub loop-i-init : goal.loop-i-init
+loop-i-init c = taking-start _ c.requires.taken
 
 pub slot_at-e-requires : goal.slot_at-e-requires
 slot_at-e-requires c =
-    record {
-      stands = (updating-running c.requires.running c.requires.mask_bound c.requires.rewritten c.size-n.ensures c.loop-left.invariant).represents.laid.worked;
-      i_bound = updating-within c.requires.running c.requires.mask_bound c.requires.rewritten c.size-n.ensures c.loop-left.invariant c.loop-left-test.true;
-    }
-
-pub wide-requires : goal.wide-requires
-wide-requires c = tt
-
-pub narrow-requires : goal.narrow-requires
-narrow-requires c = tt
+    let now = taking-running c.requires.running c.loop-i.invariant in
+    (omega arith, (now.represents.laid.worked, updating-within c.requires.running c.requires.mask_bound c.requires.rewritten c.size-i-end.ensures c.loop-i.invariant c.loop-i-test.true))
 
 pub update_row-requires : goal.update_row-requires
 update_row-requires c =
-    let now = updating-running c.requires.running c.requires.mask_bound c.requires.rewritten c.size-n.ensures c.loop-left.invariant in record {
+    let now = taking-running c.requires.running c.loop-i.invariant in record {
       laid = now.represents.laid;
       sorted = live-sorted now.reached now.represents;
-      can_join = updating-can c.requires.running c.requires.mask_bound c.requires.rewritten c.size-n.ensures c.loop-left.invariant c.loop-left-test.true c.slot_at-e.ensures c.narrow.ensures;
+      can_join = updating-can c.requires.running c.requires.mask_bound c.requires.rewritten c.size-i-end.ensures c.loop-i.invariant c.loop-i-test.true c.slot_at-e.ensures c.narrow.ensures;
     }
 
-pub loop-left-preserved : goal.loop-left-preserved
-loop-left-preserved c =
-    updating-next c.requires.running c.requires.mask_bound c.requires.rewritten c.size-n.ensures c.loop-left.invariant c.loop-left-test.true
-    c.slot_at-e.ensures c.narrow.ensures _ (λ k. (c.type_inv.room k).fits) c.update_row.ensures
+pub unwrap-requires : goal.unwrap-requires
+unwrap-requires c =
+    updating-went c.requires.running c.requires.mask_bound c.requires.rewritten c.size-i-end.ensures c.loop-i.invariant c.loop-i-test.true
+    c.slot_at-e.ensures c.narrow.ensures _ _ c.update_row.ensures
+
+pub loop-i-preserved : goal.loop-i-preserved
+loop-i-preserved c =
+    updating-next c.requires.running c.requires.mask_bound c.requires.rewritten c.size-i-end.ensures c.loop-i.invariant c.loop-i-test.true
+    c.slot_at-e.ensures c.narrow.ensures _ _ c.update_row.ensures (λ k. (c.type_inv.room k).fits)
 
 pub returns : goal.returns
 returns c =
-    updating-done c.requires.running c.requires.mask_bound c.requires.rewritten c.size-n.ensures c.loop-left.invariant c.loop-left-test.false
+    updating-done c.requires.running c.requires.mask_bound c.requires.rewritten c.size-i-end.ensures c.loop-i.invariant c.loop-i-test.false

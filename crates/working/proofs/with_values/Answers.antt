@@ -29,13 +29,13 @@ loop-c-preserved c =
     elim c.if-has_bit.branch [
       | then-has_bit w ↦
           rw (w.row-is, w.here-is)
-          (filling-set c.args.s.now bytes c.args.mask c.loop-c.invariant c.loop-c-test.true (test ∙ w.if-has_bit.true) (rw (← w.word32.ensures) w.with_cell-row.ensures))
+          (filling-set c.args.s.now bytes c.args.mask c.loop-c.invariant (omega arith) (test ∙ w.if-has_bit.true) (rw (← w.word32.ensures) w.with_cell-row.ensures))
       | else-has_bit w ↦
           rw (w.row-is, w.here-is)
-          (filling-unset c.args.s.now bytes c.args.mask c.loop-c.invariant c.loop-c-test.true (test ∙ w.if-has_bit.false))
+          (filling-unset c.args.s.now bytes c.args.mask c.loop-c.invariant (omega arith) (test ∙ w.if-has_bit.false))
     ]
 
 pub returns : goal.returns
 returns c =
     let bytes : Bytes c.args.s.now = λ i. (c.type_inv.s i).fits in
-    filling-done c.args.s.now bytes c.args.mask c.loop-c.invariant c.loop-c-test.false
+    filling-done c.args.s.now bytes c.args.mask c.loop-c.invariant (omega arith)

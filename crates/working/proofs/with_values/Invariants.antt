@@ -1,6 +1,5 @@
 -- `working::with_values` meets its contract. The loop's invariant: the row, filled with the values still to come from its column on, is
 -- the row wanted.
-use Prim.Native.Nat.{◌-◌}
 use lib.Count.{ones}
 use Rattle.meaning.specs.Processing.Actions.{updated_row}
 use Rattle.fields.specs.Fields.{values_at}
@@ -10,6 +9,3 @@ use Rattle.working.proofs.with_values.Given as goal
 
 abbrev pub invariant-loop-c : goal.invariant-loop-c
 invariant-loop-c l = Filling l.s l.mask (updated_row l.mask (values_at l.s (ones l.mask) l.initial.here) (row_meant l.initial.row)) l.row l.here l.c
-
-abbrev pub decreases-loop-c : goal.decreases-loop-c
-decreases-loop-c l = 4 - l.c

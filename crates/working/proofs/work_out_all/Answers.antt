@@ -1,47 +1,35 @@
 -- `working::work_out_all` meets its contract. The loop's invariant: the rows worked out so far, then what those that are left give, are
 -- what all chosen rows give; the room is as it was but for the rows worked out.
 use native.Mathlib.Omega.{arith}
-use Rattle.slots.specs.Slots.{table_bytes}
-use Rattle.working.proofs.Rows.{chosen-stands, turning-start, turning-done, turning-failed, turning-stands, turning-sized}
-use Rattle.working.proofs.Rows.{turning-room, turning-ready, turning-works, turning-more, turning-out}
+use Rattle.std.proofs.lemmas.Result.{err_from_is_err_and}
+use Rattle.working.proofs.Rows.{turning-start, turning-done, turning-stands, turning-within}
+use Rattle.working.proofs.Rows.{turning-room, turning-ready, turning-more, turning-out}
 use Rattle.working.proofs.work_out_all.Goals as goal
 
-pub size-n-requires : goal.size-n-requires
-unfolding table_bytes
-size-n-requires c =
-    omega (arith, (chosen-stands c.requires.laid c.empty.ensures).fits)
-
-pub loop-left-init : goal.loop-left-init
-loop-left-init c =
-    turning-start c.requires.laid c.empty.ensures _ _ c.size-n.ensures
+pub loop-i-init : goal.loop-i-init
+loop-i-init c = turning-start c.requires.laid c.empty.ensures _ _
 
 pub push_from-requires : goal.push_from-requires
 push_from-requires c =
-    record {
-      stands = c.loop-left.invariant.stands;
-      base_bound = turning-room c.loop-left.invariant c.loop-left-test.true;
-      most_bound = omega arith;
-      stands_2 = turning-stands c.loop-left.invariant;
-      i_bound = omega (arith, turning-sized c.loop-left.invariant);
-    }
+    let within = rw c.size-i-end.ensures at c.loop-i-test.true in
+    (omega arith, (omega arith, (c.loop-i.invariant.stands, (turning-room c.loop-i.invariant within, (omega arith, (turning-stands c.loop-i.invariant, turning-within c.loop-i.invariant within))))))
 
-pub work_out_row-requires : goal.work_out_row-requires
-work_out_row-requires c =
-    record {
-      as_chosen = turning-ready c.loop-left.invariant c.loop-left-test.true c.push_from.ensures;
-      mask_bound = c.requires.mask_bound;
-    }
+pub work_out_row-requires-clause-as_chosen : goal.work_out_row-requires-clause-as_chosen
+work_out_row-requires-clause-as_chosen c =
+    turning-ready c.loop-i.invariant (rw c.size-i-end.ensures at c.loop-i-test.true) c.push_from.ensures
 
-pub returns-then-not-work_out_row : goal.returns-then-not-work_out_row
-returns-then-not-work_out_row c =
-    turning-failed c.requires.laid c.empty.ensures _ _ (turning-works c.loop-left.invariant c.loop-left-test.true c.push_from.ensures c.work_out_row.ensures)
-    (turning-out c.loop-left.invariant c.loop-left-test.true c.push_from.ensures c.work_out_row.ensures c.if-not-work_out_row.true)
+pub returns-in_err-work_out_row : goal.returns-in_err-work_out_row
+returns-in_err-work_out_row c =
+    let is = err_from_is_err_and c.from_residual.result c.from_residual.ensures.1 in
+    rw (is.1, is.2)
+    (turning-out c.loop-i.invariant (rw c.size-i-end.ensures at c.loop-i-test.true) c.push_from.ensures c.work_out_row.ensures
+    c.requires.laid c.empty.ensures c.in_err-work_out_row.was)
 
-pub loop-left-preserved : goal.loop-left-preserved
-loop-left-preserved c =
-    turning-more c.loop-left.invariant c.loop-left-test.true c.push_from.ensures c.work_out_row.ensures
-    c.if-not-work_out_row.false
+pub loop-i-preserved : goal.loop-i-preserved
+loop-i-preserved c =
+    turning-more c.loop-i.invariant (rw c.size-i-end.ensures at c.loop-i-test.true) c.push_from.ensures c.work_out_row.ensures
+    c.in_ok-work_out_row.was
 
 pub returns : goal.returns
 returns c =
-    turning-done c.requires.laid c.empty.ensures _ _ c.loop-left.invariant c.loop-left-test.false
+    turning-done c.requires.laid c.empty.ensures _ _ c.loop-i.invariant (omega (arith, c.size-i-end.ensures))

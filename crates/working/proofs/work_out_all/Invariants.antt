@@ -6,8 +6,5 @@ use Rattle.words.specs.Words.{readable}
 use Rattle.working.proofs.Rows.{Turning}
 use Rattle.working.proofs.work_out_all.Given as goal
 
-abbrev pub invariant-loop-left : goal.invariant-loop-left
-invariant-loop-left l = Turning l.initial.room l.room (readable (ones l.mask) expression l.book l.at) l.mask l.n l.left
-
-abbrev pub decreases-loop-left : goal.decreases-loop-left
-decreases-loop-left l = l.left
+abbrev pub invariant-loop-i : goal.invariant-loop-i
+invariant-loop-i l = Turning l.initial.room l.room (readable (ones l.mask) expression l.book l.at) l.mask l.i

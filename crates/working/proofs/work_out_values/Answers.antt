@@ -4,30 +4,17 @@ use mathlib.Core.Path.{ap, ◌∙◌}
 use native.Mathlib.Omega.{arith}
 use Rattle.meaning.specs.Covers.{Row}
 use Rattle.words.specs.Words.{Bytes}
-use Rattle.slots.specs.Slots.{table_bytes}
 use Rattle.working.proofs.Values.{four-values}
 use Rattle.working.proofs.Rows.{one-row, room-for-one}
 use Rattle.working.proofs.work_out_values.Goals as goal
 
-pub empty-requires : goal.empty-requires
-unfolding table_bytes
-empty-requires c = omega arith
-
-pub with_values-requires : goal.with_values-requires
+pub with_values-requires-clause-fact : goal.with_values-requires-clause-fact
 unfolding ones
-with_values-requires c =
-    record {
-      mask_bound = omega arith;
-      fact = c.requires.fact;
-    }
+with_values-requires-clause-fact c = c.requires.fact
 
 pub push-requires : goal.push-requires
 push-requires c =
-    record {
-      stands = c.empty.ensures.stands;
-      base_bound = room-for-one c.requires.laid c.empty.ensures;
-      most_bound = omega arith;
-    }
+    (omega arith, (c.empty.ensures.stands, (room-for-one c.requires.laid c.empty.ensures, omega arith)))
 
 pub returns : goal.returns
 returns c =
