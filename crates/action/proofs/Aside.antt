@@ -1,5 +1,6 @@
 -- A change of the chosen rows and of those worked out, and of nothing else, is aside from what the room represents: live rows, next handle,
 -- transition tables and what waits stand elsewhere. So what acts after such a change acts from the room before it.
+use Rattle.std.specs.Prelude.{Err}
 use mathlib.Core.Path.{◌≡◌, ap, ◌∙◌}
 use mathlib.Core.List.{List, []}
 use Prim.Native.Nat.{ℕ}
@@ -19,10 +20,9 @@ use Rattle.room.proofs.Steps.{made_all-none}
 use Rattle.query.specs.Chosen.{Chose}
 use Rattle.query.proofs.Keeping.{laid_kept}
 use Rattle.working.specs.Working.{Works}
-use Rattle.changes.specs.declared.Step.{Step}
-use Rattle.changes.specs.declared.Reason.{Reason}
-use Rattle.changes.specs.declared.Step.TheVariants.{Failed}
-use Rattle.changes.specs.Steps.{Acts, reason_meant}
+use Rattle.rows.specs.declared.Reason.{Reason}
+use Rattle.changes.specs.declared.Stop.TheVariants.{Failed}
+use Rattle.changes.specs.Steps.{Step, Acts, reason_meant}
 use Rattle.changes.specs.Steps as Steps
 
 pub record Aside (xs ys : List ℕ) : Type 0 where
@@ -110,7 +110,7 @@ module _ {xs ys : List ℕ} (l : Laid xs) (a : Aside xs ys) where
 
   pub fails-after : {g : Image → Result} → Bytes ys → (reason : Reason)
       → ((tables : List ℕ) (s : State) → Represents xs tables s → g s.image ≡ ends (failed (reason_meant reason)) [])
-      → Acts xs ys g (Failed reason)
+      → Acts xs ys g (Err (Failed reason))
   fails-after bytes reason same =
       record {
         laid = a.laid;

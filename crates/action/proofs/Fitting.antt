@@ -1,4 +1,5 @@
 -- What a fitting operation or action says of its parts, by its one constructor, and that a rollback ends the run with nothing changed.
+use Rattle.std.specs.Prelude.{Err}
 use mathlib.Core.Path.{◌≡◌, refl}
 use mathlib.Core.List.{List, []}
 use Prim.Native.Nat.{ℕ, ◌≤◌}
@@ -10,7 +11,7 @@ use Rattle.meaning.specs.Processing.Actions.{ends}
 use Rattle.room.specs.Represents.{Running}
 use Rattle.room.proofs.Kept.{kept_refl}
 use Rattle.room.proofs.Steps.{made_all-none}
-use Rattle.changes.specs.declared.Step.TheVariants.{RolledBack}
+use Rattle.changes.specs.declared.Stop.TheVariants.{RolledBack}
 use Rattle.changes.specs.Steps.{Acts, rolls_back}
 use Rattle.action.specs.Fit.{FitOperation, insert_fits, update_fits, FitAction, insert_row_fits, insert_from_query_fits, delete_rows_fits}
 use Rattle.action.specs.Fit.{update_rows_fits}
@@ -34,7 +35,7 @@ pub update_rows-fits : {t mask : ℕ} {es : List Expression} {ts : List Term} �
     → (t ≤ 3) × (mask ≤ 15) × (length es ≡ ones mask)
 update_rows-fits (update_rows_fits a b c) = (a, b, c)
 
-pub rolled-back : {xs : List ℕ} → Running xs → Acts xs xs (λ m. ends rolled_back []) RolledBack
+pub rolled-back : {xs : List ℕ} → Running xs → Acts xs xs (λ m. ends rolled_back []) (Err RolledBack)
 rolled-back run =
     record {
       laid = run.represents.laid;

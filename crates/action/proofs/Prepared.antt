@@ -1,7 +1,7 @@
 -- What stands ready before an action changes a row: the rows that its query yields are chosen, and where every expression of every one of
 -- them has a value, the rows worked out are these with their values; else some sum left 32 bits, and the action fails for it.
+use Rattle.std.specs.Prelude.{Result, Ok, Err}
 use mathlib.Core.Path.{◌≡◌, refl, sym, ap, ◌∙◌}
-use mathlib.Core.Bool.{Bool, true, false}
 use mathlib.Core.List.{List, [], ◌∷◌, map}
 use mathlib.Core.Option.{Option, none, some}
 use Prim.Native.Nat.{ℕ, ◌≤◌}
@@ -26,11 +26,11 @@ use Rattle.room.specs.Room.{CHOSEN, WORKED, Laid, row_meant, rows_meant, rows_wi
 use Rattle.room.specs.Represents.{Running}
 use Rattle.room.proofs.Live.{reached-sound}
 use Rattle.query.specs.Chosen.{Chose}
-use Rattle.working.specs.Working.{all_worked, WorkedOut, WorkedValues}
-use Rattle.changes.specs.declared.Step.{Step}
-use Rattle.changes.specs.declared.Reason.TheVariants as reason
-use Rattle.changes.specs.declared.Step.TheVariants.{Went, Failed}
-use Rattle.changes.specs.Steps.{Acts, values_in, Rewritten, UpdatesAll}
+use Rattle.rows.specs.declared.Reason.{Reason}
+use Rattle.rows.specs.declared.Reason.TheVariants.{SumOutOfRange}
+use Rattle.working.specs.Working.{if_worked, OutOfRange, WorkedOut, WorkedValues}
+use Rattle.changes.specs.declared.Stop.TheVariants.{Failed}
+use Rattle.changes.specs.Steps.{Step, Acts, values_in, Rewritten, UpdatesAll}
 use Rattle.action.proofs.Aside.{Aside, aside-chosen, aside-worked, aside-more, chosen-stays, live-aside, acts-after, fails-after}
 
 -- ---- Lists of results
@@ -78,14 +78,15 @@ values_of (e ∷ l) = ap (λ (vss : List (List ℤ)). (row_meant e).values ∷ v
 
 -- ---- Ready
 
-pub record Prepared (xs zs : List ℕ) (q : Query) (es : List Expression) (mask : ℕ) (r : Bool) : Type 0 where
+pub record Prepared (xs zs : List ℕ) (q : Query) (es : List Expression) (mask : ℕ) (r : Result (Unit {0}) Reason) : Type 0 where
   pub aside : Aside xs zs
   pub rows : rows_meant (table_at zs CHOSEN) ≡ chosen (transition_in xs) (live_rows xs) q
-  pub worked : all_worked r (rows_meant (table_at zs WORKED))
+  pub worked : if_worked r (rows_meant (table_at zs WORKED))
       ≡ maybe (each_or (work_out_all es) (rows_meant (table_at zs CHOSEN))) none
       (λ vss. some (rows_with mask (rows_meant (table_at zs CHOSEN)) vss))
+  pub stopped : OutOfRange r
 
-pub prepared : {xs ys zs : List ℕ} {q : Query} {es : List Expression} {mask : ℕ} {r : Bool} → Laid xs → Chose xs ys q
+pub prepared : {xs ys zs : List ℕ} {q : Query} {es : List Expression} {mask : ℕ} {r : Result (Unit {0}) Reason} → Laid xs → Chose xs ys q
     → WorkedOut ys zs es mask r → Prepared xs zs q es mask r
 prepared {xs} {ys} {zs} l c w =
     let a = aside-chosen l c in
@@ -94,6 +95,7 @@ prepared {xs} {ys} {zs} l c w =
       aside = aside-more a (aside-worked a.laid w.works);
       rows = ap rows_meant same ∙ c.rows;
       worked = rw same w.rows;
+      stopped = w.stopped;
     }
 
 -- the values that were worked out
@@ -104,8 +106,8 @@ pub record Ready (zs : List ℕ) (es : List Expression) (mask : ℕ) : Type 0 wh
   pub long : Each (λ vs. length vs ≡ length es) values
   pub rows : rows_meant (table_at zs WORKED) ≡ rows_with mask (rows_meant (table_at zs CHOSEN)) values
 
-pub ready : {xs zs : List ℕ} {q : Query} {es : List Expression} {mask : ℕ} → Prepared xs zs q es mask true → Ready zs es mask
-unfolding all_worked
+pub ready : {xs zs : List ℕ} {q : Query} {es : List Expression} {mask : ℕ} → Prepared xs zs q es mask (Ok tt) → Ready zs es mask
+unfolding if_worked
 ready {zs = zs} {es = es} {mask = mask} p = go (each_or (work_out_all es) (rows_meant (table_at zs CHOSEN))) refl p.worked
   where
     go : (o : Option (List (List ℤ))) → each_or (work_out_all es) (rows_meant (table_at zs CHOSEN)) ≡ o
@@ -116,9 +118,9 @@ ready {zs = zs} {es = es} {mask = mask} p = go (each_or (work_out_all es) (rows_
         let n = worked-lengths es (rows_meant (table_at zs CHOSEN)) vss e in
         record { values = vss; found = e; each = n.0; long = n.1; rows = same_some w }
 
-unready : {xs zs : List ℕ} {q : Query} {es : List Expression} {mask : ℕ} → Prepared xs zs q es mask false
+unready : {xs zs : List ℕ} {q : Query} {es : List Expression} {mask : ℕ} {reason : Reason} → Prepared xs zs q es mask (Err reason)
     → each_or (work_out_all es) (rows_meant (table_at zs CHOSEN)) ≡ none
-unfolding all_worked
+unfolding if_worked
 unready {zs = zs} {es = es} {mask = mask} p = go (each_or (work_out_all es) (rows_meant (table_at zs CHOSEN))) refl p.worked
   where
     go : (o : Option (List (List ℤ))) → each_or (work_out_all es) (rows_meant (table_at zs CHOSEN)) ≡ o
@@ -146,8 +148,8 @@ module _ {xs ys : List ℕ} (run : Running xs) (a : Aside xs ys) (table : ℕ) (
       rw (live-aside run.represents.laid a, rows, run.represents.rows)
       (chosen-taken (transition_in xs) run.state.image table ts (reached-sound run.reached))
 
-  pub acts-delete : {zs : List ℕ} → Bytes ys → Acts ys zs (λ m. delete_all (rows_meant (table_at ys CHOSEN))) Went
-      → Acts xs zs (perform (transition_in xs) (delete_rows table ts)) Went
+  pub acts-delete : {zs : List ℕ} → Bytes ys → Acts ys zs (λ m. delete_all (rows_meant (table_at ys CHOSEN))) (Ok tt)
+      → Acts xs zs (perform (transition_in xs) (delete_rows table ts)) (Ok tt)
   unfolding perform
   acts-delete bytes act =
       acts-after run.represents.laid a bytes (λ tables s p. rw (← p.rows, rows)) act
@@ -163,12 +165,13 @@ acts-insert table l w bytes act =
 -- ---- An insert from a query
 
 module _ {xs zs : List ℕ} {q : Query} {es : List Expression} (table : ℕ) (l : Laid xs) where
-  pub query-fails : Prepared xs zs q es 15 false → Bytes zs
-      → Acts xs zs (perform (transition_in xs) (insert_from_query table q es)) (Failed reason.SumOutOfRange)
+  pub query-fails : {reason : Reason} → Prepared xs zs q es 15 (Err reason) → Bytes zs
+      → Acts xs zs (perform (transition_in xs) (insert_from_query table q es)) (Err (Failed reason))
   unfolding perform fails
-  query-fails p bytes = fails-after l p.aside bytes reason.SumOutOfRange (λ tables s r. rw (← r.rows, ← p.rows, unready p))
+  query-fails p bytes =
+      rw p.stopped (fails-after l p.aside bytes SumOutOfRange (λ tables s r. rw (← r.rows, ← p.rows, unready p)))
 
-  pub query-inserts : {ws : List ℕ} {r : Step} → length es ≡ 4 → Prepared xs zs q es 15 true → Bytes zs
+  pub query-inserts : {ws : List ℕ} {r : Step} → length es ≡ 4 → Prepared xs zs q es 15 (Ok tt) → Bytes zs
       → Acts zs ws (insert_all table (values_in zs)) r → Acts xs ws (perform (transition_in xs) (insert_from_query table q es)) r
   unfolding perform values_in
   query-inserts four p bytes act =
@@ -185,19 +188,20 @@ ready-each : {zs : List ℕ} {es : List Expression} {mask : ℕ} (y : Ready zs e
 unfolding rows_meant
 ready-each {zs = zs} y = y.each ∙ length-map (table_at zs CHOSEN) row_meant
 
-pub update-ready : {xs zs : List ℕ} {q : Query} {es : List Expression} {mask : ℕ} → Prepared xs zs q es mask true → Rewritten zs mask
+pub update-ready : {xs zs : List ℕ} {q : Query} {es : List Expression} {mask : ℕ} → Prepared xs zs q es mask (Ok tt) → Rewritten zs mask
 update-ready p =
     let y = ready p in
     record { values = y.values; each = ready-each y; rows = y.rows }
 
 module _ {xs zs : List ℕ} {mask : ℕ} {es : List Expression} (table : ℕ) (ts : List Term) (l : Laid xs) where
-  pub update-fails : Prepared xs zs (rows_of table ts) es mask false → Bytes zs
-      → Acts xs zs (perform (transition_in xs) (update_rows table mask es ts)) (Failed reason.SumOutOfRange)
+  pub update-fails : {reason : Reason} → Prepared xs zs (rows_of table ts) es mask (Err reason) → Bytes zs
+      → Acts xs zs (perform (transition_in xs) (update_rows table mask es ts)) (Err (Failed reason))
   unfolding perform fails
-  update-fails p bytes = fails-after l p.aside bytes reason.SumOutOfRange (λ tables s r. rw (← r.rows, ← p.rows, unready p))
+  update-fails p bytes =
+      rw p.stopped (fails-after l p.aside bytes SumOutOfRange (λ tables s r. rw (← r.rows, ← p.rows, unready p)))
 
-  pub query-updates : {ws : List ℕ} → Prepared xs zs (rows_of table ts) es mask true → Bytes zs → UpdatesAll zs ws mask
-      → Acts xs ws (perform (transition_in xs) (update_rows table mask es ts)) Went
+  pub query-updates : {ws : List ℕ} → Prepared xs zs (rows_of table ts) es mask (Ok tt) → Bytes zs → UpdatesAll zs ws mask
+      → Acts xs ws (perform (transition_in xs) (update_rows table mask es ts)) (Ok tt)
   unfolding perform
   query-updates p bytes u =
       let y = ready p in

@@ -5,9 +5,6 @@ use Rattle.action.proofs.Aside.{aside-chosen, running-aside}
 use Rattle.action.proofs.Prepared.{table-chosen, taken-rows, acts-delete}
 use Rattle.action.proofs.delete_rows.Goals as goal
 
-pub choose-requires : goal.choose-requires
-choose-requires c = c.requires.running.represents.laid
-
 pub delete_all-requires : goal.delete_all-requires
 delete_all-requires c =
     let made = table-chosen c.args.book.now c.args.triggers c.args.table c.args.terms c.requires.table_bound c.choose.ensures in

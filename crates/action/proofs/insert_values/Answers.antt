@@ -7,21 +7,14 @@ use Rattle.action.proofs.Prepared.{acts-insert}
 use Rattle.action.proofs.Whole.{not_short}
 use Rattle.action.proofs.insert_values.Goals as goal
 
-pub work_out_values-requires : goal.work_out_values-requires
+pub work_out_values-requires-clause-fact : goal.work_out_values-requires-clause-fact
 unfolding values_at
-work_out_values-requires c =
-    record {
-      laid = c.requires.running.represents.laid;
-      fact = not_short value 4 c.args.s.now c.args.values c.requires.values_len;
-    }
+work_out_values-requires-clause-fact c = not_short value 4 c.args.s.now c.args.values c.requires.values_len
 
-pub insert_all-requires : goal.insert_all-requires
-insert_all-requires c =
-    record {
-      running = running-aside (aside-worked c.requires.running.represents.laid c.work_out_values.ensures.works)
-          (search rules) c.requires.running;
-      table_bound = c.requires.table_bound;
-    }
+pub insert_all-requires-clause-running : goal.insert_all-requires-clause-running
+insert_all-requires-clause-running c =
+    running-aside (aside-worked c.requires.running.represents.laid c.work_out_values.ensures.works)
+    (search rules) c.requires.running
 
 pub returns : goal.returns
 returns c =

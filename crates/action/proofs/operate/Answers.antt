@@ -14,9 +14,6 @@ insert_values-requires c =
       values_len = fit.1;
     }
 
-pub delete_one-requires : goal.delete_one-requires
-delete_one-requires c = c.requires.running
-
 pub update_one-requires : goal.update_one-requires
 unfolding operation_meant
 update_one-requires c =

@@ -1,36 +1,32 @@
 -- `action::update_rows` meets its contract: rows are chosen and worked out aside; where a sum leaves 32 bits nothing changed that the room
 -- represents, else the rows worked out take the places of the chosen ones.
 use borrow.Author.Rules.{rules}
+use Rattle.std.proofs.lemmas.Result.{err_from_is_err_and}
 use Rattle.terms.specs.Terms.{terms_meant}
 use Rattle.book.specs.Books.{expressions_at}
 use Rattle.action.proofs.Aside.{aside-chosen, running-aside}
 use Rattle.action.proofs.Prepared.{table-chosen, taken-rows, prepared, update-fails, update-ready, query-updates}
 use Rattle.action.proofs.update_rows.Goals as goal
 
-pub choose-requires : goal.choose-requires
-choose-requires c = c.requires.running.represents.laid
+pub work_out_all-requires-clause-laid : goal.work_out_all-requires-clause-laid
+work_out_all-requires-clause-laid c = (aside-chosen c.requires.running.represents.laid c.choose.ensures).laid
 
-pub work_out_all-requires : goal.work_out_all-requires
-work_out_all-requires c =
-    record {
-      laid = (aside-chosen c.requires.running.represents.laid c.choose.ensures).laid;
-      mask_bound = c.requires.mask_bound;
-    }
-
-pub returns-then-not-work_out_all : goal.returns-then-not-work_out_all
+pub returns-in_err-work_out_all : goal.returns-in_err-work_out_all
 unfolding expressions_at
-returns-then-not-work_out_all c =
+returns-in_err-work_out_all c =
+    let is = err_from_is_err_and c.from_residual.result c.from_residual.ensures.1 in
     let made = table-chosen c.args.book.now c.args.triggers c.args.table c.args.terms c.requires.table_bound c.choose.ensures in
-    update-fails c.args.table (terms_meant c.args.book.now c.args.triggers c.args.terms) c.requires.running.represents.laid
-    (prepared c.requires.running.represents.laid made (rw c.if-not-work_out_all.true at c.work_out_all.ensures))
-    (λ k. (c.type_inv.room k).fits)
+    rw (is.1, is.2)
+    (update-fails c.args.table (terms_meant c.args.book.now c.args.triggers c.args.terms) c.requires.running.represents.laid
+    (prepared c.requires.running.represents.laid made (rw c.in_err-work_out_all.was at c.work_out_all.ensures))
+    (λ k. (c.type_inv.room k).fits))
 
 pub update_all-requires : goal.update_all-requires
 update_all-requires c =
     let made = table-chosen c.args.book.now c.args.triggers c.args.table c.args.terms c.requires.table_bound c.choose.ensures in
     let p =
     prepared c.requires.running.represents.laid made
-    (rw c.if-not-work_out_all.false at c.work_out_all.ensures) in
+    (rw c.in_ok-work_out_all.was at c.work_out_all.ensures) in
     record {
       running = running-aside p.aside (search rules) c.requires.running;
       mask_bound = c.requires.mask_bound;
@@ -43,5 +39,5 @@ unfolding expressions_at
 returns c =
     let made = table-chosen c.args.book.now c.args.triggers c.args.table c.args.terms c.requires.table_bound c.choose.ensures in
     query-updates c.args.table (terms_meant c.args.book.now c.args.triggers c.args.terms) c.requires.running.represents.laid
-    (prepared c.requires.running.represents.laid made (rw c.if-not-work_out_all.false at c.work_out_all.ensures))
+    (prepared c.requires.running.represents.laid made (rw c.in_ok-work_out_all.was at c.work_out_all.ensures))
     (search rules) c.update_all.ensures
