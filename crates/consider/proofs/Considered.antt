@@ -1,6 +1,6 @@
 -- A consideration of a rule of a plan: the rule that is read is the rule that is listed; its transition tables are those of what waits for
 -- it; and so its condition is asked, and its actions run, on what the specification says.
-use Rattle.std.specs.Prelude.{if◌then◌else◌}
+use Rattle.std.specs.Prelude.{if◌then◌else◌, Option, Some, Ok}
 use mathlib.Core.Path.{◌≡◌, sym, ap, ◌∙◌}
 use mathlib.Core.Bool.{Bool, true, false}
 use mathlib.Core.List.{List, []}
@@ -15,8 +15,6 @@ use Rattle.meaning.specs.Processing.TransitionTables.{transition}
 use Rattle.meaning.specs.Processing.Actions.{went}
 use Rattle.words.specs.Words.{Bytes}
 use Rattle.book.specs.declared.Rule.{Rule as RuleStood}
-use Rattle.book.specs.declared.RuleRead.{RuleRead}
-use Rattle.book.specs.declared.RuleRead.TheVariants as rule_read
 use Rattle.book.specs.Books.{condition_meant, actions_meant, rule_of, rule_meant, rule_or}
 use Rattle.plan.specs.declared.Plan.{Plan}
 use Rattle.plan.specs.Plans.{rules_in, Planned}
@@ -31,9 +29,7 @@ use Rattle.room.proofs.Draws.{drawn-whole}
 use Rattle.room.proofs.Marks.{reached-seen, drew}
 use Rattle.room.proofs.Steps.{made_all-none}
 use Rattle.transition.proofs.Afterwards.{transition-watch}
-use Rattle.changes.specs.declared.Step.{Step}
-use Rattle.changes.specs.declared.Step.TheVariants.{Went}
-use Rattle.changes.specs.Steps.{goes_on, Acts}
+use Rattle.changes.specs.Steps.{Step, goes_on, Acts}
 use Rattle.consider.specs.Considers.{Considers}
 
 -- ---- Its transition tables are drawn
@@ -50,9 +46,9 @@ pub record Drawn (xs ys s : List ℕ) (plan : Plan) (k : ℕ) (rule : RuleStood)
   pub drawing : Drew xs ys k (watch_rule watch)
   pub bytes : Bytes ys
 
-pub drawn : {xs ys s : List ℕ} {plan : Plan} {k : ℕ} {read : RuleRead} {rule : RuleStood} {after : ℕ} {w : Watch}
+pub drawn : {xs ys s : List ℕ} {plan : Plan} {k : ℕ} {read : Option (RuleStood × ℕ)} {rule : RuleStood} {after : ℕ} {w : Watch}
     → (plan.count ≤ 16) × (k < plan.count) → Planned s plan.count plan → get_or plan.tables k 0 ≤ 3
-    → rule_or s read ≡ ByteLayouts.rule plan.count s (get_or plan.starts k 0) → read ≡ rule_read.Is rule after
+    → rule_or s read ≡ ByteLayouts.rule plan.count s (get_or plan.starts k 0) → read ≡ Some (rule, after)
     → (w.table ≡ rule.head.table) × (w.triggers ≡ rule.head.triggers) × (w.columns ≡ rule.head.columns)
     → Drew xs ys k (watch_rule w) → Bytes ys → Drawn xs ys s plan k rule
 drawn {k = k} {w = w} low planned on e is of d bytes =
@@ -112,7 +108,7 @@ module _ {xs ys s : List ℕ} {plan : Plan} {k : ℕ} {rule : RuleStood} (d : Dr
           }
 
       -- it does not, and nothing more is done
-      pub considers-none : b ≡ false → Considers xs ys s plan k Went
+      pub considers-none : b ≡ false → Considers xs ys s plan k (Ok tt)
       considers-none off =
           record {
             laid = d.drawing.laid;

@@ -1,4 +1,5 @@
 -- Before each turn: whatever the rest from here ends as, the whole ends as. So one turn more keeps it, and the last one gives the ending.
+use Rattle.std.specs.Prelude.{Option, Some, None, Ok, Err}
 use mathlib.Core.Path.{◌≡◌, refl, ◌∙◌}
 use mathlib.Core.List.{List}
 use Prim.Native.Nat.{ℕ, ◌+◌, ◌-◌, ◌≤◌, ◌<◌}
@@ -8,20 +9,18 @@ use lib.ListN.{length, get_or}
 use Rattle.room.specs.Room.{END, Kept}
 use Rattle.room.specs.Represents.{Ready}
 use Rattle.room.proofs.Kept.{kept_refl, kept_trans}
-use Rattle.changes.specs.declared.Reason.{Reason}
-use Rattle.changes.specs.declared.Step.{Step}
-use Rattle.changes.specs.declared.Step.TheVariants.{Went, RolledBack, Failed}
+use Rattle.changes.specs.declared.Stop.{Stop}
+use Rattle.changes.specs.Steps.{Step}
 use Rattle.plan.specs.declared.Plan.{Plan}
 use Rattle.plan.specs.Plans.{Planned}
-use Rattle.trigger.specs.declared.Next.{Next}
-use Rattle.trigger.specs.declared.Next.TheVariants as next
 use Rattle.trigger.specs.Triggers.{Numbers}
 use Rattle.consider.specs.Considers.{Considers}
 use Rattle.processing.specs.declared.Budget.{Budget}
 use Rattle.processing.specs.declared.Outcome.TheVariants as outcome
 use Rattle.processing.specs.declared.Ended.{Ended}
+use Rattle.processing.specs.Endings.{stopped}
 use Rattle.processing.specs.Rest.{Midway, Looks, EndsFrom, Steps}
-use Rattle.processing.proofs.Turns.{quiet-ends, limit-ends, rule-below, rule-active, turn-back, turn-fails, turn-midway, turn_on}
+use Rattle.processing.proofs.Turns.{quiet-ends, limit-ends, rule-below, rule-active, turn-ends, turn-midway, turn_on}
 
 -- before a turn
 pub record Going (xs zs book : List ℕ) (plan : Plan) (limit : ℕ) (b : Budget) : Type 0 where
@@ -36,7 +35,7 @@ pub going_start : {xs book : List ℕ} {plan : Plan} (limit : ℕ) → Midway xs
 going_start limit m = record { same = refl; within = omega arith; beyond = kept_refl; midway = m; rest = λ ys r e. simp unary_clauses at e }
 
 module _ {xs zs vs book : List ℕ} {plan : Plan} {limit : ℕ} {b : Budget} (g : Going xs zs book plan limit b)
-    {found : Next} (t : Looks zs vs book plan found) where
+    {found : Option ℕ} (t : Looks zs vs book plan found) where
   -- what the room is for a rule to be considered
   pub going-ready : Ready vs plan.tables
   going-ready =
@@ -47,10 +46,10 @@ module _ {xs zs vs book : List ℕ} {plan : Plan} {limit : ℕ} {b : Budget} (g 
   pub going-kept : Kept END (length xs) xs vs
   going-kept = kept_trans g.beyond (rw g.beyond.len at t.beyond)
 
-  pub going-quiet : {r : Ended} → found ≡ next.Quiet → (r.outcome ≡ outcome.Commit) × (r.count ≡ b.count) → Steps xs vs book plan limit r
+  pub going-quiet : {r : Ended} → found ≡ None → (r.outcome ≡ outcome.Commit) × (r.count ≡ b.count) → Steps xs vs book plan limit r
   going-quiet q told = record { beyond = going-kept; from = g.rest vs _ (quiet-ends t (limit - b.count) b.count q told) }
 
-  module _ {k : ℕ} (q : found ≡ next.Rule k) where
+  module _ {k : ℕ} (q : found ≡ Some k) where
     pub going-limit : {r : Ended} → limit ≤ b.count → (r.outcome ≡ outcome.StepLimit) × (r.count ≡ b.count)
         → Steps xs vs book plan limit r
     going-limit h told =
@@ -68,25 +67,16 @@ module _ {xs zs vs book : List ℕ} {plan : Plan} {limit : ℕ} {b : Budget} (g 
         kept : Kept END (length xs) xs ys
         kept = kept_trans going-kept (rw going-kept.len at c.beyond)
 
-        pub going-back : {r : Ended} → step ≡ RolledBack → (r.outcome ≡ outcome.RolledBack) × (r.count ≡ n)
+        pub going-ends : {r : Ended} {stop : Stop} → step ≡ Err stop → (r.outcome ≡ stopped stop) × (r.count ≡ n)
             → Steps xs ys book plan limit r
-        going-back e told = record {
+        going-ends e told = record {
           beyond = kept;
           from =
               g.rest ys _
-              (turn-back t q planned (going-below numbers) c (limit - b.count) b.count (omega arith) e (told.0, told.1 ∙ counted));
+              (turn-ends t q planned (going-below numbers) c (limit - b.count) b.count (omega arith) e (told.0, told.1 ∙ counted));
         }
 
-        pub going-fails : {r : Ended} {why : Reason} → step ≡ Failed why → (r.outcome ≡ outcome.Failed why) × (r.count ≡ n)
-            → Steps xs ys book plan limit r
-        going-fails e told = record {
-          beyond = kept;
-          from =
-              g.rest ys _
-              (turn-fails t q planned (going-below numbers) c (limit - b.count) b.count (omega arith) e (told.0, told.1 ∙ counted));
-        }
-
-        pub going_on : step ≡ Went → (after : Budget) → after.count ≡ n → after.limit ≡ b.limit → Going xs ys book plan limit after
+        pub going_on : step ≡ Ok tt → (after : Budget) → after.count ≡ n → after.limit ≡ b.limit → Going xs ys book plan limit after
         going_on e after count stays =
             let now-made : after.count ≡ b.count + 1 = count ∙ counted in
             let now-left : limit - after.count ≡ limit - b.count - 1 = omega arith in

@@ -1,4 +1,5 @@
 -- A run by its log: it ends there, or goes on to the steps from the state that the log leads to, for every start that the room represents.
+use Rattle.std.specs.Prelude.{Ok, Err}
 use mathlib.Core.Path.{◌≡◌, ap}
 use mathlib.Core.List.{List, map}
 use Prim.Native.Nat.{ℕ}
@@ -14,20 +15,17 @@ use Rattle.words.specs.Words.{readable}
 use Rattle.room.specs.Represents.{Represents, Running, made_all, starting}
 use Rattle.room.proofs.Kept.{kept_trans}
 use Rattle.room.proofs.Marks.{starting-log, reached-starting}
-use Rattle.changes.specs.declared.Reason.{Reason}
-use Rattle.changes.specs.declared.Step.{Step}
-use Rattle.changes.specs.declared.Step.TheVariants.{Went, RolledBack, Failed}
-use Rattle.changes.specs.Steps.{Follows, Acts}
+use Rattle.changes.specs.declared.Stop.{Stop}
+use Rattle.changes.specs.Steps.{Step, Follows, Acts}
 use Rattle.series.proofs.Composed.{After, acts-after}
 use Rattle.series.proofs.Loops.{log-makes}
 use Rattle.plan.specs.declared.Plan.{Plan}
 use Rattle.plan.specs.Plans.{rules_in}
 use Rattle.trigger.specs.Triggers.{order_in}
-use Rattle.processing.specs.declared.Outcome.TheVariants as outcome
 use Rattle.processing.specs.declared.Ended.{Ended}
-use Rattle.processing.specs.Endings.{outcome_meant, Starts, Processes}
+use Rattle.processing.specs.Endings.{outcome_meant, stopped, Starts, Processes}
 use Rattle.processing.specs.Rest.{Reaches, Midway, Steps}
-use Rattle.processing.proofs.Turns.{Led, led-back, led-fails, after-ends, ends_there}
+use Rattle.processing.proofs.Turns.{Led, led-ends, after-ends, ends_there}
 
 -- ---- What the log results in
 
@@ -77,17 +75,12 @@ module _ (book log : List ℕ) (plan : Plan) (n : ℕ) {xs ys : List ℕ} {step 
             (ends_there _ (led start sound p).represents out none_made);
       }
 
-  pub log_back : (limit : ℕ) {r : Ended} → step ≡ RolledBack → (r.outcome ≡ outcome.RolledBack) × (r.count ≡ 0)
+  pub log-ends : (limit : ℕ) {r : Ended} {stop : Stop} → step ≡ Err stop → (r.outcome ≡ stopped stop) × (r.count ≡ 0)
       → Processes xs ys book log plan limit n r
-  log_back limit e told =
-      ends-run limit (ap outcome_meant told.0) told.1 (λ start sound p. led-back (followed start sound p) e)
+  log-ends limit e told =
+      ends-run limit (ap outcome_meant told.0) told.1 (λ start sound p. led-ends (followed start sound p) e)
 
-  pub log-fails : (limit : ℕ) {r : Ended} {why : Reason} → step ≡ Failed why → (r.outcome ≡ outcome.Failed why) × (r.count ≡ 0)
-      → Processes xs ys book log plan limit n r
-  log-fails limit e told =
-      ends-run limit (ap outcome_meant told.0) told.1 (λ start sound p. led-fails (followed start sound p) e)
-
-  module _ (e : step ≡ Went) where
+  module _ (e : step ≡ Ok tt) where
     after : (start : Image) → Sound start → Represents xs plan.tables (starting (rules_in book plan.count) start)
         → After start (starting (rules_in book plan.count) start) ys plan.tables (run_log (readable n operation log 7) start)
     unfolding starting

@@ -1,6 +1,7 @@
 -- A turn of the loop, for every state that the room represents: nothing is triggered and the run commits; or the first triggered rule is
 -- considered, and the run ends there or goes on; or a rule is triggered and no consideration is left. What a consideration or the log made
 -- fits, as the rules and operations that were read are good, so that the state after it is reached.
+use Rattle.std.specs.Prelude.{Option, Some, None, Ok, Err}
 use mathlib.Core.Path.{◌≡◌, refl, sym, ap, ◌∙◌}
 use mathlib.Core.Bool.{true, ◌&&◌}
 use mathlib.Core.List.{List}
@@ -18,23 +19,20 @@ use Rattle.meaning.specs.Processing.Actions.{Result, went, ends}
 use Rattle.meaning.proofs.Lists.{and-true, first-is, there-below}
 use Rattle.meaning.proofs.StepsFit.{GoodRule, Built, built-moved}
 use Rattle.meaning.proofs.RunsFit.{rule-gives}
+use Rattle.words.specs.Words.{option_as}
 use Rattle.words.proofs.Laws.{readable-each}
 use Rattle.room.specs.Represents.{Represents, made_all, seen}
 use Rattle.room.proofs.Marks.{seen-moved, reached-seen}
-use Rattle.changes.specs.declared.Reason.{Reason}
-use Rattle.changes.specs.declared.Step.{Step}
-use Rattle.changes.specs.declared.Step.TheVariants.{Went, RolledBack, Failed}
-use Rattle.changes.specs.Steps.{reason_meant, Follows, goes_on, rolls_back, fails}
+use Rattle.changes.specs.declared.Stop.{Stop}
+use Rattle.changes.specs.Steps.{Step, Follows, goes_on, rolls_back, fails}
 use Rattle.plan.specs.declared.Plan.{Plan}
 use Rattle.plan.specs.Plans.{rules_in, Planned}
 use Rattle.plan.proofs.Active.{active-low}
-use Rattle.trigger.specs.declared.Next.{Next}
-use Rattle.trigger.specs.declared.Next.TheVariants as next
-use Rattle.trigger.specs.Triggers.{next_meant, order_in, Numbers}
+use Rattle.trigger.specs.Triggers.{next_meant, numbers_in, order_in, Numbers}
 use Rattle.consider.specs.Considers.{Considers}
 use Rattle.processing.specs.declared.Outcome.TheVariants as outcome
 use Rattle.processing.specs.declared.Ended.{Ended}
-use Rattle.processing.specs.Endings.{outcome_meant, EndsAs}
+use Rattle.processing.specs.Endings.{outcome_meant, stopped, EndsAs}
 use Rattle.processing.specs.Rest.{Reaches, Midway, Looks, EndsFrom}
 use Rattle.processing.proofs.OneStep.{steps-quiet, steps-limit, steps-went, steps-ends, first_below}
 
@@ -46,24 +44,21 @@ pub record Led (ys tables : List ℕ) (s : State) (result : Result) (to : List R
   pub is : result ≡ to new
   pub represents : Represents ys tables (made_all new s)
 
-module _ {ys tables : List ℕ} {s : State} where
-  pub led_on : {result : Result} {r : Step} → Follows ys tables s result r → r ≡ Went → Led ys tables s result went
-  led_on (goes_on {os = os} p) e = record { new = os; is = refl; represents = p }
-  led_on (rolls_back p) e = absurd (let z : ◌≡◌ {A = ℕ} 0 1 = cc in omega arith)
-  led_on (fails p) e = absurd (let z : ◌≡◌ {A = ℕ} 0 1 = cc in omega arith)
+module _ {ys tables : List ℕ} {s : State} {result : Result} where
+  pub led_on : {r : Step} → Follows ys tables s result r → r ≡ Ok tt → Led ys tables s result went
+  led_on follows e = go (rw e at follows)
+    where
+      go : {result : Result} → Follows ys tables s result (Ok tt) → Led ys tables s result went
+      go (goes_on {os = os} p) = record { new = os; is = refl; represents = p }
 
-  pub led-back : {result : Result} {r : Step} → Follows ys tables s result r → r ≡ RolledBack
-      → Led ys tables s result (ends Covers.rolled_back)
-  led-back (goes_on p) e = absurd (let z : ◌≡◌ {A = ℕ} 0 1 = cc in omega arith)
-  led-back (rolls_back {os = os} p) e = record { new = os; is = refl; represents = p }
-  led-back (fails p) e = absurd (let z : ◌≡◌ {A = ℕ} 0 1 = cc in omega arith)
-
-  pub led-fails : {result : Result} {r : Step} {why : Reason} → Follows ys tables s result r → r ≡ Failed why
-      → Led ys tables s result (ends (Covers.failed (reason_meant why)))
-  led-fails (goes_on p) e = absurd (let z : ◌≡◌ {A = ℕ} 0 1 = cc in omega arith)
-  led-fails (rolls_back p) e = absurd (let z : ◌≡◌ {A = ℕ} 0 1 = cc in omega arith)
-  led-fails {why = why} (fails {r = r} {os = os} p) e =
-      let same : r ≡ why = cc in record { new = os; is = ap (λ (w : Reason). ends (Covers.failed (reason_meant w)) os) same; represents = p }
+  pub led-ends : {r : Step} {stop : Stop} → Follows ys tables s result r → r ≡ Err stop
+      → Led ys tables s result (ends (outcome_meant (stopped stop)))
+  led-ends {stop = stop} follows e = go (rw e at follows)
+    where
+      go : {result : Result} {stop : Stop} → Follows ys tables s result (Err stop)
+          → Led ys tables s result (ends (outcome_meant (stopped stop)))
+      go (rolls_back {os = os} p) = record { new = os; is = refl; represents = p }
+      go (fails {os = os} p) = record { new = os; is = refl; represents = p }
 
 -- ---- Endings
 
@@ -83,11 +78,11 @@ ends_there es p o n = record { laid = p.laid; outcome = o; count = n; next = p.n
 abbrev rules_of : List ℕ → Plan → List Rule
 rules_of book plan = rules_in book plan.count
 
-module _ {xs ys book : List ℕ} {plan : Plan} {found : Next} (t : Looks xs ys book plan found) where
+module _ {xs ys book : List ℕ} {plan : Plan} {found : Option ℕ} (t : Looks xs ys book plan found) where
   -- nothing is triggered
-  pub quiet-ends : (left count : ℕ) {r : Ended} → found ≡ next.Quiet → (r.outcome ≡ outcome.Commit) × (r.count ≡ count)
+  pub quiet-ends : (left count : ℕ) {r : Ended} → found ≡ None → (r.outcome ≡ outcome.Commit) × (r.count ≡ count)
       → EndsFrom xs ys book plan left count r
-  unfolding next_meant
+  unfolding next_meant option_as
   quiet-ends left count q told =
       record {
         ends = λ start s a.
@@ -97,9 +92,9 @@ module _ {xs ys book : List ℕ} {plan : Plan} {found : Next} (t : Looks xs ys b
             (ends_there _ there.represents (ap outcome_meant told.0) told.1);
       }
 
-  module _ {k : ℕ} (q : found ≡ next.Rule k) where
+  module _ {k : ℕ} (q : found ≡ Some k) where
     first : {start : Image} {s : State} → Reaches xs book plan start s → first_triggered (rules_of book plan) (order_in plan) s ≡ some k
-    unfolding next_meant
+    unfolding next_meant option_as
     first {start} {s} a = sym (t.first.is s (t.rests start s a).settled) ∙ ap next_meant q
 
     -- a rule is triggered, and no consideration is left
@@ -116,7 +111,7 @@ module _ {xs ys book : List ℕ} {plan : Plan} {found : Next} (t : Looks xs ys b
     pub rule-below : Numbers plan → Midway xs book plan → k < plan.count
     unfolding first_triggered order_in
     rule-below numbers m =
-        first_below (triggered (rules_of book plan) m.state) plan.order.rules plan.count plan.count k numbers.rule
+        first_below (triggered (rules_of book plan) m.state) (numbers_in plan.order) plan.count plan.count k numbers.rule
         (first m.reaches)
 
     -- it is triggered, so it is active
@@ -151,17 +146,12 @@ module _ {xs ys book : List ℕ} {plan : Plan} {found : Next} (t : Looks xs ys b
                 (ends_there _ way.represents out n);
           }
 
-      pub turn-back : (left count : ℕ) {r : Ended} → 0 < left → step ≡ RolledBack
-          → (r.outcome ≡ outcome.RolledBack) × (r.count ≡ count + 1) → EndsFrom xs zs book plan left count r
-      turn-back left count h e told =
-          ends-run left count h (ap outcome_meant told.0) told.1 (λ start s a. led-back (followed a) e)
+      pub turn-ends : (left count : ℕ) {r : Ended} {stop : Stop} → 0 < left → step ≡ Err stop
+          → (r.outcome ≡ stopped stop) × (r.count ≡ count + 1) → EndsFrom xs zs book plan left count r
+      turn-ends left count h e told =
+          ends-run left count h (ap outcome_meant told.0) told.1 (λ start s a. led-ends (followed a) e)
 
-      pub turn-fails : (left count : ℕ) {r : Ended} {why : Reason} → 0 < left → step ≡ Failed why
-          → (r.outcome ≡ outcome.Failed why) × (r.count ≡ count + 1) → EndsFrom xs zs book plan left count r
-      turn-fails left count h e told =
-          ends-run left count h (ap outcome_meant told.0) told.1 (λ start s a. led-fails (followed a) e)
-
-      module _ (e : step ≡ Went) where
+      module _ (e : step ≡ Ok tt) where
         led : {start : Image} {s : State} → Reaches xs book plan start s
             → Led zs plan.tables (seen s k) (consider (rules_of book plan) s k) went
         led a = led_on (followed a) e

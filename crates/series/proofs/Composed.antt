@@ -1,5 +1,6 @@
 -- Steps one after another are one step: where the first goes on, its row operations fit, so that the state after it is reached and the
 -- second acts on it; where the first ends the run, so do both. A loop keeps what is owed for the rest (`Onward`).
+use Rattle.std.specs.Prelude.{Ok, Err}
 use mathlib.Core.Path.{◌≡◌, refl, ◌∙◌}
 use mathlib.Core.List.{List, [], ◌++◌}
 use Prim.Native.Nat.{ℕ}
@@ -15,10 +16,8 @@ use Rattle.room.specs.Represents.{Represents, Reached, Running, made_all}
 use Rattle.room.proofs.Kept.{kept_refl, kept_trans}
 use Rattle.room.proofs.Live.{reached-sound}
 use Rattle.room.proofs.Steps.{made_all-none, made_all-append, reached-all}
-use Rattle.changes.specs.declared.Reason.{Reason}
-use Rattle.changes.specs.declared.Step.{Step}
-use Rattle.changes.specs.declared.Step.TheVariants.{Went, RolledBack, Failed}
-use Rattle.changes.specs.Steps.{Follows, goes_on, rolls_back, fails, Acts}
+use Rattle.changes.specs.declared.Stop.{Stop}
+use Rattle.changes.specs.Steps.{Step, Follows, goes_on, rolls_back, fails, Acts}
 
 -- ---- What a step makes
 
@@ -49,12 +48,12 @@ pub record After (start : Image) (s : State) (ys tables : List ℕ) (r : Result)
   pub represents : Represents ys tables (made_all new s)
 
 module _ {start : Image} {s : State} {ys tables : List ℕ} (reached : Reached start s) where
-  went-after : {r : Result} → MadeOf s.image r → Follows ys tables s r Went → After start s ys tables r
+  went-after : {r : Result} → MadeOf s.image r → Follows ys tables s r (Ok tt) → After start s ys tables r
   went-after (went_made {os = os} g) (goes_on p) =
       record { new = os; is = refl; made = g; reached = reached-all reached g; represents = p }
   went-after (ends_made {o = o} {os = os} _ _) x7 = elim x7 [ ]
 
-module _ {xs ys : List ℕ} {f : Image → Result} (makes : Makes f) (acts : Acts xs ys f Went) where
+module _ {xs ys : List ℕ} {f : Image → Result} (makes : Makes f) (acts : Acts xs ys f (Ok tt)) where
   pub acts-after : {tables : List ℕ} {start : Image} {s : State} → Reached start s → Represents xs tables s → After start s ys tables (f s.image)
   acts-after {tables} {start} {s} reached p =
       went-after reached (makes.fit s.image (reached-sound reached)) (acts.follows tables start s reached p)
@@ -79,7 +78,7 @@ following-follows {s = s} os (goes_on {os = new} p) = goes_on {os = os ++ new} (
 following-follows {s = s} os (rolls_back {os = new} p) = rolls_back {os = os ++ new} (rw (made_all-append os new s) p)
 following-follows {s = s} os (fails {r = reason} {os = new} p) = fails {r = reason} {os = os ++ new} (rw (made_all-append os new s) p)
 
-pub acts-then : {xs ys zs : List ℕ} {f g : Image → Result} {step : Step} → Makes f → Acts xs ys f Went
+pub acts-then : {xs ys zs : List ℕ} {f g : Image → Result} {step : Step} → Makes f → Acts xs ys f (Ok tt)
     → Acts ys zs g step → Acts xs zs (λ m. and_then m (f m) g) step
 unfolding and_then made_all
 acts-then {xs} {ys} {zs} {f} {g} {step} makes one two =
@@ -96,28 +95,24 @@ acts-then {xs} {ys} {zs} {f} {g} {step} makes one two =
     }
 
 -- a step that ends the run
-pub data Ends : Step → Type 0 where
-  ends_rolled_back : Ends RolledBack
-  ends_failed : {r : Reason} → Ends (Failed r)
-
-ends-follows : {ys tables : List ℕ} {s : State} {r : Result} {step : Step} (m : Image) (g : Image → Result) → Ends step
-    → Follows ys tables s r step → Follows ys tables s (and_then m r g) step
+ends-follows : {ys tables : List ℕ} {s : State} {r : Result} {stop : Stop} (m : Image) (g : Image → Result)
+    → Follows ys tables s r (Err stop) → Follows ys tables s (and_then m r g) (Err stop)
 unfolding and_then
-ends-follows m g ends_rolled_back (rolls_back p) = rolls_back p
-ends-follows m g ends_failed (fails {r = r} p) = fails {r = r} p
+ends-follows m g (rolls_back p) = rolls_back p
+ends-follows m g (fails {r = r} p) = fails {r = r} p
 
-pub acts-ends : {xs ys : List ℕ} {f : Image → Result} {step : Step} (g : Image → Result) → Ends step
-    → Acts xs ys f step → Acts xs ys (λ m. and_then m (f m) g) step
-acts-ends g end one =
+pub acts-ends : {xs ys : List ℕ} {f : Image → Result} {stop : Stop} (g : Image → Result) → Acts xs ys f (Err stop)
+    → Acts xs ys (λ m. and_then m (f m) g) (Err stop)
+acts-ends g one =
     record {
       laid = one.laid;
       shown = one.shown;
       beyond = one.beyond;
-      follows = λ tables start s reached p. ends-follows s.image g end (one.follows tables start s reached p);
+      follows = λ tables start s reached p. ends-follows s.image g (one.follows tables start s reached p);
     }
 
 -- nothing is a step
-pub acts-nothing : {xs : List ℕ} → Running xs → Acts xs xs (λ m. went []) Went
+pub acts-nothing : {xs : List ℕ} → Running xs → Acts xs xs (λ m. went []) (Ok tt)
 acts-nothing run =
     record {
       laid = run.represents.laid;
@@ -139,11 +134,11 @@ pub onward-start : {xs : List ℕ} (f : Image → Result) → Running xs → Onw
 onward-start f run = record { running = run; shown = refl; acts = λ zs step a. a }
 
 module _ {xs ys : List ℕ} {whole : Image → Result} where
-  pub onward-done : Onward xs ys whole (λ m. went []) → Acts xs ys whole Went
-  onward-done on = on.acts ys Went (acts-nothing on.running)
+  pub onward-done : Onward xs ys whole (λ m. went []) → Acts xs ys whole (Ok tt)
+  onward-done on = on.acts ys (Ok tt) (acts-nothing on.running)
 
   module _ {zs : List ℕ} {f : Image → Result} (g : Image → Result) (on : Onward xs ys whole (λ m. and_then m (f m) g)) where
-    pub onward-more : Makes f → Acts ys zs f Went → Onward xs zs whole g
+    pub onward-more : Makes f → Acts ys zs f (Ok tt) → Onward xs zs whole g
     onward-more makes a =
         record {
           running = acts-running makes a on.running;
@@ -151,5 +146,5 @@ module _ {xs ys : List ℕ} {whole : Image → Result} where
           acts = λ ws step b. on.acts ws step (acts-then makes a b);
         }
 
-    pub onward-ends : {step : Step} → Ends step → Acts ys zs f step → Acts xs zs whole step
-    onward-ends {step} end a = on.acts zs step (acts-ends g end a)
+    pub onward-ends : {stop : Stop} → Acts ys zs f (Err stop) → Acts xs zs whole (Err stop)
+    onward-ends a = on.acts zs (Err _) (acts-ends g a)

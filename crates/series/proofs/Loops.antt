@@ -1,8 +1,12 @@
 -- A loop that reads one thing after another and runs each: what is left to read, run from the room now, does what all of it does from the
 -- room at the start. So it is with the operations of a log and with the actions of a rule; and what they make fits.
+use Rattle.std.specs.Prelude.{Ok, Err}
+use Rattle.std.specs.Result.{IsErrAnd}
 use mathlib.Core.Path.{◌≡◌, refl}
 use mathlib.Core.List.{List, [], ◌∷◌}
-use Prim.Native.Nat.{ℕ, ◌-◌, ◌≤◌, ◌<◌}
+use Prim.Native.Nat.{ℕ, ◌+◌, ◌-◌, ◌≤◌, ◌<◌}
+use native.Mathlib.Omega.{arith}
+use native.Mathlib.Numerals.{unary_clauses}
 use Rattle.meaning.specs.Reading.{Parser, bad, got}
 use Rattle.meaning.specs.Covers.{Image, LogOperation, Action}
 use Rattle.meaning.specs.ByteLayouts.{operation, action}
@@ -17,10 +21,9 @@ use Rattle.words.proofs.Laws.{readable-none, readable-bad, readable-more, readab
 use Rattle.book.specs.declared.Actions.{Actions}
 use Rattle.book.specs.Books.{actions_meant}
 use Rattle.room.specs.Represents.{Running}
-use Rattle.changes.specs.declared.Step.{Step}
-use Rattle.changes.specs.declared.Step.TheVariants.{Went}
-use Rattle.changes.specs.Steps.{Acts}
-use Rattle.series.proofs.Composed.{Makes, Onward, onward-start, onward-done, onward-more, onward-ends, Ends}
+use Rattle.changes.specs.declared.Stop.{Stop}
+use Rattle.changes.specs.Steps.{Step, Acts}
+use Rattle.series.proofs.Composed.{Makes, Onward, onward-start, onward-done, onward-more, onward-ends}
 
 -- ---- Things run in order
 
@@ -38,36 +41,44 @@ actions-series t = record { nothing = refl; more = λ a others. refl }
 
 -- ---- The loop
 
--- of `count` things from a place on, those that are left, from here on
+-- of `count` things from a place on, those that are left once `done` were run, from here on
 pub record Left {A : Type 0} (p : Parser A) (run : List A → Image → Result) (s xs ys : List ℕ)
-    (count from left here : ℕ) : Type 0 where
-  pub onward : Onward xs ys (run (readable count p s from)) (run (readable left p s here))
+    (count from done here : ℕ) : Type 0 where
+  pub onward : Onward xs ys (run (readable count p s from)) (run (readable (count - done) p s here))
 
 pub left-start : {A : Type 0} (p : Parser A) (run : List A → Image → Result) (s : List ℕ) {xs : List ℕ}
-    (count from : ℕ) → Running xs → Left p run s xs xs count from count from
-left-start p run s count from running = record { onward = onward-start (run (readable count p s from)) running }
+    (count from : ℕ) → Running xs → Left p run s xs xs count from 0 from
+left-start p run s count from running = record { onward = simp unary_clauses (onward-start (run (readable count p s from)) running) }
 
 module _ {A : Type 0} {p : Parser A} {step : A → Image → Result} {run : List A → Image → Result} {s xs ys : List ℕ}
-    {count from left here : ℕ} (series : Series step run) (l : Left p run s xs ys count from left here) where
-  left-nothing : readable left p s here ≡ [] → Acts xs ys (run (readable count p s from)) Went
+    {count from done here : ℕ} (series : Series step run) (l : Left p run s xs ys count from done here) where
+  left-nothing : readable (count - done) p s here ≡ [] → Acts xs ys (run (readable count p s from)) (Ok tt)
   left-nothing e = onward-done (rw (e, series.nothing) at l.onward)
 
-  pub left-done : left ≤ 0 → Acts xs ys (run (readable count p s from)) Went
-  left-done h = left-nothing (readable-none p left s here h)
+  pub left-done : count ≤ done → Acts xs ys (run (readable count p s from)) (Ok tt)
+  left-done h = left-nothing (readable-none p (count - done) s here (omega arith))
 
-  pub left-bad : p s here ≡ bad → Acts xs ys (run (readable count p s from)) Went
-  left-bad e = left-nothing (readable-bad p left s here e)
+  pub left-bad : p s here ≡ bad → Acts xs ys (run (readable count p s from)) (Ok tt)
+  left-bad e = left-nothing (readable-bad p (count - done) s here e)
 
-  module _ {a : A} {next : ℕ} (some : 0 < left) (e : p s here ≡ got a next) where
-    then-rest : Onward xs ys (run (readable count p s from)) (λ m. and_then m (step a m) (run (readable (left - 1) p s next)))
-    then-rest = rw (readable-more p left s here a next some e, series.more a (readable (left - 1) p s next)) at l.onward
+  module _ {a : A} {next : ℕ} (some : done < count) (e : p s here ≡ got a next) where
+    then-rest : Onward xs ys (run (readable count p s from)) (λ m. and_then m (step a m) (run (readable (count - (done + 1)) p s next)))
+    then-rest =
+        let one_less : count - done - 1 ≡ count - (done + 1) = omega arith in
+        rw
+        (readable-more p (count - done) s here a next (omega arith) e,
+        series.more a (readable (count - done - 1) p s next),
+        one_less)
+        at l.onward
 
-    pub left-more : {zs : List ℕ} → Makes (step a) → Acts ys zs (step a) Went → Left p run s xs zs count from (left - 1) next
-    left-more makes acts = record { onward = onward-more (run (readable (left - 1) p s next)) then-rest makes acts }
+    pub left-more : {zs : List ℕ} → Makes (step a) → Acts ys zs (step a) (Ok tt) → Left p run s xs zs count from (done + 1) next
+    left-more makes acts = record { onward = onward-more (run (readable (count - (done + 1)) p s next)) then-rest makes acts }
 
-    pub left-ends : {zs : List ℕ} {r : Step} → Ends r → Acts ys zs (step a) r
-        → Acts xs zs (run (readable count p s from)) r
-    left-ends end acts = onward-ends (run (readable (left - 1) p s next)) then-rest end acts
+    -- the end is passed on as it is
+    pub left-ends : {zs : List ℕ} {stop : Stop} → Acts ys zs (step a) (Err stop) → (out : Step)
+        → IsErrAnd out (λ passed. passed ≡ stop) → Acts xs zs (run (readable count p s from)) out
+    left-ends acts (Ok t) is = absurd is
+    left-ends acts (Err passed) is = rw is (onward-ends (run (readable (count - (done + 1)) p s next)) then-rest acts)
 
 -- ---- What they make
 

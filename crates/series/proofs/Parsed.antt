@@ -1,5 +1,6 @@
 -- An operation or action that the specification's parser gives fits, wherever it stands: each of its parts was read by a parser that
 -- admits nothing else.
+use Rattle.std.specs.Prelude.{Option, Some, None}
 use mathlib.Core.Path.{◌≡◌}
 use mathlib.Core.List.{List}
 use Prim.Native.Nat.{ℕ}
@@ -10,13 +11,10 @@ use Rattle.meaning.specs.ByteLayouts as ByteLayouts
 use Rattle.meaning.specs.ByteLayouts.{terms, query, operation, action}
 use Rattle.meaning.proofs.RunsFit.{Gives, bind-gives, past-gives, pure-gives, malformed-gives, if-gives, many-gives, mask-gives}
 use Rattle.meaning.proofs.RunsFit.{values-give, table-gives, expression-gives}
+use Rattle.words.specs.Words.{read_as}
 use Rattle.transaction_log.specs.declared.Operation.{Operation}
-use Rattle.transaction_log.specs.declared.OperationRead.{OperationRead}
-use Rattle.transaction_log.specs.declared.OperationRead.TheVariants as operation_read
 use Rattle.transaction_log.specs.Log.{operation_meant, operation_or}
 use Rattle.book.specs.declared.Action as book
-use Rattle.book.specs.declared.ActionRead.{ActionRead}
-use Rattle.book.specs.declared.ActionRead.TheVariants as action_read
 use Rattle.book.specs.Books.{action_meant, action_or}
 use Rattle.action.specs.Fit.{FitOperation, insert_fits, delete_fits, update_fits, FitAction, rollback_fits, insert_row_fits, insert_from_query_fits}
 use Rattle.action.specs.Fit.{delete_rows_fits, update_rows_fits}
@@ -44,14 +42,14 @@ operation-fits =
     if-gives (eqb n 1) insertion-fits (if-gives (eqb n 2) deletion-fits (if-gives (eqb n 3) change-fits malformed-gives)))
 
 -- what the decoder's answer says of the parser
-pub operation-read : (s : List ℕ) (at : ℕ) {r : OperationRead} {q : Operation} {next : ℕ} → operation_or s r ≡ operation s at
-    → r ≡ operation_read.Is q next → operation s at ≡ got (operation_meant s q) next
-unfolding operation_or
+pub operation-read : (s : List ℕ) (at : ℕ) {r : Option (Operation × ℕ)} {q : Operation} {next : ℕ} → operation_or s r ≡ operation s at
+    → r ≡ Some (q, next) → operation s at ≡ got (operation_meant s q) next
+unfolding operation_or read_as
 operation-read s at e told = rw (← e, told)
 
-pub operation-unread : (s : List ℕ) (at : ℕ) {r : OperationRead} → operation_or s r ≡ operation s at → r ≡ operation_read.Bad
+pub operation-unread : (s : List ℕ) (at : ℕ) {r : Option (Operation × ℕ)} → operation_or s r ≡ operation s at → r ≡ None
     → operation s at ≡ bad
-unfolding operation_or
+unfolding operation_or read_as
 operation-unread s at e told = rw (← e, told)
 
 -- ---- An action of a rule
@@ -86,12 +84,12 @@ module _ (triggers : ℕ) where
       (if-gives (eqb n 3) delete_rows-fits (if-gives (eqb n 4) update_rows-fits malformed-gives)))))
 
 -- what the decoder's answer says of the parser
-pub action-read : (s : List ℕ) (triggers at : ℕ) {r : ActionRead} {a : book.Action} {next : ℕ}
-    → action_or s triggers r ≡ action triggers s at → r ≡ action_read.Is a next → action triggers s at ≡ got (action_meant s triggers a) next
-unfolding action_or
+pub action-read : (s : List ℕ) (triggers at : ℕ) {r : Option (book.Action × ℕ)} {a : book.Action} {next : ℕ}
+    → action_or s triggers r ≡ action triggers s at → r ≡ Some (a, next) → action triggers s at ≡ got (action_meant s triggers a) next
+unfolding action_or read_as
 action-read s triggers at e told = rw (← e, told)
 
-pub action-unread : (s : List ℕ) (triggers at : ℕ) {r : ActionRead} → action_or s triggers r ≡ action triggers s at → r ≡ action_read.Bad
-    → action triggers s at ≡ bad
-unfolding action_or
+pub action-unread : (s : List ℕ) (triggers at : ℕ) {r : Option (book.Action × ℕ)} → action_or s triggers r ≡ action triggers s at
+    → r ≡ None → action triggers s at ≡ bad
+unfolding action_or read_as
 action-unread s triggers at e told = rw (← e, told)

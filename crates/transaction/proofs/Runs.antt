@@ -52,6 +52,13 @@ cleared-rest k n h e = e ∙ rw (rest-kept k n h, length-replicate {A = ℕ} n 0
 
 -- ---- What is handed back
 
+pub other-outcome : (o : Outcome) → (o ≡ Commit → ⊥) → false ≡ committed o
+unfolding committed
+other-outcome Commit other = absurd (other refl)
+other-outcome RolledBack other = refl
+other-outcome StepLimit other = refl
+other-outcome (Failed r) other = refl
+
 -- for an ending whose image stands in the room, the bytes of the image that the specification hands back
 handed-meant : (o : Outcome) (image ys : List ℕ) (start : Image) (e : Ending) → outcome_meant o ≡ e.outcome
     → low32_at ys NEXT ≡ e.image.next → live_rows ys ≡ e.image.rows → image_bytes start ≡ image

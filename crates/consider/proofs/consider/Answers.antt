@@ -10,6 +10,10 @@ use Rattle.plan.proofs.Listed.{can-read}
 use Rattle.consider.proofs.Considered.{drawn, considers-acts, considers-none}
 use Rattle.consider.proofs.consider.Goals as goal
 
+pub returns-in_default : goal.returns-in_default
+returns-in_default c =
+    absurd (can-read (c.requires.planned.placed _ c.requires.count_bound.1) c.rule_at.ensures c.in_default.is)
+
 pub draw-requires : goal.draw-requires
 draw-requires c =
     let low : c.args.k < 16 = omega (arith, c.requires.count_bound) in
@@ -21,24 +25,20 @@ draw-requires c =
       few = few;
     }
 
+pub returns-then-not-condition_holds : goal.returns-then-not-condition_holds
+returns-then-not-condition_holds c =
+    let d =
+    drawn c.requires.count_bound c.requires.planned c.requires.k_bound c.rule_at.ensures c.in-Some.is c.watch.ensures
+    c.draw.ensures (search rules) in
+    considers-none d c.condition_holds.ensures c.if-not-condition_holds.true
+
 pub run_actions-requires : goal.run_actions-requires
 run_actions-requires c =
     running-drawn c.requires.ready c.draw.ensures (search rules)
 
-pub returns-then-condition_holds : goal.returns-then-condition_holds
-returns-then-condition_holds c =
+pub returns : goal.returns
+returns c =
     let d =
-    drawn c.requires.count_bound c.requires.planned c.requires.k_bound c.rule_at.ensures c.in-Is.is c.watch.ensures
+    drawn c.requires.count_bound c.requires.planned c.requires.k_bound c.rule_at.ensures c.in-Some.is c.watch.ensures
     c.draw.ensures (search rules) in
-    considers-acts d c.condition_holds.ensures c.if-condition_holds.true c.run_actions.ensures
-
-pub returns-else-condition_holds : goal.returns-else-condition_holds
-returns-else-condition_holds c =
-    let d =
-    drawn c.requires.count_bound c.requires.planned c.requires.k_bound c.rule_at.ensures c.in-Is.is c.watch.ensures
-    c.draw.ensures (search rules) in
-    considers-none d c.condition_holds.ensures c.if-condition_holds.false
-
-pub returns-in-Bad : goal.returns-in-Bad
-returns-in-Bad c =
-    absurd (can-read (c.requires.planned.placed _ c.requires.count_bound.1) c.rule_at.ensures c.in-Bad.is)
+    considers-acts d c.condition_holds.ensures c.if-not-condition_holds.false c.run_actions.ensures

@@ -6,8 +6,8 @@ use Rattle.room.specs.Room.{transition_in}
 use Rattle.series.proofs.Loops.{Left}
 use Rattle.series.proofs.run_actions.Given as goal
 
-abbrev pub invariant-loop-left : goal.invariant-loop-left
-invariant-loop-left l = Left (action l.triggers) (run_actions (transition_in l.initial.room)) l.book l.initial.room l.room l.initial.left l.initial.here l.left l.here
-
-abbrev pub decreases-loop-left : goal.decreases-loop-left
-decreases-loop-left l = l.left
+abbrev pub invariant-loop : goal.invariant-loop
+invariant-loop l =
+    let all = l.fn.actions in
+    Left (action l.triggers) (run_actions (transition_in l.initial.room)) l.book l.initial.room l.room all.count all.first
+    l.counter l.here

@@ -5,8 +5,5 @@ use Rattle.meaning.specs.Processing.{run_log}
 use Rattle.series.proofs.Loops.{Left}
 use Rattle.series.proofs.run_log.Given as goal
 
-abbrev pub invariant-loop-left : goal.invariant-loop-left
-invariant-loop-left l = Left operation run_log l.log l.initial.room l.room l.count 7 l.left l.here
-
-abbrev pub decreases-loop-left : goal.decreases-loop-left
-decreases-loop-left l = l.left
+abbrev pub invariant-loop : goal.invariant-loop
+invariant-loop l = Left operation run_log l.log l.initial.room l.room l.fn.count 7 l.counter l.here
