@@ -99,27 +99,11 @@ module _ {xs : List ℕ} (run : Running xs) (h : ℕ) where
       let now = run.represents in
       fails-after now.laid nothing-aside now.bytes NoSuchRow (λ tables s p. rw (← p.rows, is-missing e))
 
-  module _ {mask k i : ℕ} (vs : List ℤ) {new : Slot} (small : mask ≤ 15) (narrowed : mask ≤ 255 → k ≡ mask)
+  module _ {mask k i : ℕ} (vs : List ℤ) (new : Slot) (small : mask ≤ 15) (narrowed : mask ≤ 255 → k ≡ mask)
       (found : find_in h (table_at xs LIVE) ≡ Some i)
-      (is : row_meant new ≡ updated_row mask vs (row_meant (get_or (table_at xs LIVE) i blank))) (fits : SlotFits new) where
-    below : i < length (table_at xs LIVE)
-    below = (find_at h (table_at xs LIVE) found).0
-
+      (is : row_meant new ≡ updated_row mask vs (row_meant (get_or (table_at xs LIVE) i blank))) where
     only : OnlyIn mask (row_meant (get_or (table_at xs LIVE) i blank)) (row_meant new)
     only = rw is (updated_row-only mask vs (row_meant (get_or (table_at xs LIVE) i blank)))
-
-    old-proper : Proper (row_meant (get_or (table_at xs LIVE) i blank))
-    old-proper =
-        found-so h (row_meant (get_or (table_at xs LIVE) i blank)) (rising-proper (reached-sound run.reached).rises)
-        (found-row run.reached run.represents h found)
-
-    new-proper : Proper (row_meant new)
-    unfolding row_meant
-    new-proper =
-        let a = old-proper.table_fits in
-        let b = only.same_table in
-        let t : new.table ≤ 3 = omega arith in
-        proper-slot {e = new} fits t
 
     new-found : find_in new.handle (table_at xs LIVE) ≡ Some i
     unfolding row_meant
@@ -129,25 +113,42 @@ module _ {xs : List ℕ} (run : Running xs) (h : ℕ) where
     k-is : k ≡ mask
     k-is = narrowed (omega arith)
 
-    pub update-can : CanJoin xs 3 k (find_in new.handle (table_at xs LIVE))
-    unfolding operation_at
-    update-can =
-        rw (k-is, new-found)
-        (joinable run.reached run.represents (fits-update run.reached run.represents i new below only new-proper)
-        (says-update mask (get_or (table_at xs LIVE) i blank) new))
-
-    pub updated-one : {ys : List ℕ} → Bytes ys → Updated xs ys k new (find_in new.handle (table_at xs LIVE)) (Ok tt)
-        → Acts xs ys (operate (update h mask vs)) (Ok tt)
-    unfolding operation_at operate update_all updates_of
-    updated-one {ys} bytes d =
-        let t : Updated xs ys mask new (Some i) (Ok tt) = rw (k-is, new-found) at d in
-        let o = updates mask (row_meant (get_or (table_at xs LIVE) i blank)) (row_meant new) in
-        moves-acts (o ∷ []) run
-        (moves-one o t (λ tables start s q p.
-        let f = fits-update q p i new below only new-proper in
-        (f, turned-update q p bytes mask i new below f refl t)))
-        (λ tables s p. rw (← p.rows, is-there found, is))
-
-    -- and no other answer is possible
+    -- a row that is found is not missed
     pub update-finds : (ys : List ℕ) (reason : Reason) → Updated xs ys k new (find_in new.handle (table_at xs LIVE)) (Err reason) → ⊥
     update-finds ys reason d = let t : Updated xs ys mask new (Some i) (Err reason) = rw (k-is, new-found) at d in t
+
+    module _ (fits : SlotFits new) where
+      below : i < length (table_at xs LIVE)
+      below = (find_at h (table_at xs LIVE) found).0
+
+      old-proper : Proper (row_meant (get_or (table_at xs LIVE) i blank))
+      old-proper =
+          found-so h (row_meant (get_or (table_at xs LIVE) i blank)) (rising-proper (reached-sound run.reached).rises)
+          (found-row run.reached run.represents h found)
+
+      new-proper : Proper (row_meant new)
+      unfolding row_meant
+      new-proper =
+          let a = old-proper.table_fits in
+          let b = only.same_table in
+          let t : new.table ≤ 3 = omega arith in
+          proper-slot {e = new} fits t
+
+      pub update-can : CanJoin xs 3 k (find_in new.handle (table_at xs LIVE))
+      unfolding operation_at
+      update-can =
+          rw (k-is, new-found)
+          (joinable run.reached run.represents (fits-update run.reached run.represents i new below only new-proper)
+          (says-update mask (get_or (table_at xs LIVE) i blank) new))
+
+      pub updated-one : {ys : List ℕ} → Bytes ys → Updated xs ys k new (find_in new.handle (table_at xs LIVE)) (Ok tt)
+          → Acts xs ys (operate (update h mask vs)) (Ok tt)
+      unfolding operation_at operate update_all updates_of
+      updated-one {ys} bytes d =
+          let t : Updated xs ys mask new (Some i) (Ok tt) = rw (k-is, new-found) at d in
+          let o = updates mask (row_meant (get_or (table_at xs LIVE) i blank)) (row_meant new) in
+          moves-acts (o ∷ []) run
+          (moves-one o t (λ tables start s q p.
+          let f = fits-update q p i new below only new-proper in
+          (f, turned-update q p bytes mask i new below f refl t)))
+          (λ tables s p. rw (← p.rows, is-there found, is))

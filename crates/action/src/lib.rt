@@ -42,7 +42,13 @@ fn delete_one(room: &mut [u8], handle: u32) -> Result<(), Stop>
 }
 
 // The log's update of the row with a handle.
-fn update_one(room: &mut [u8], log: &[u8], handle: u32, mask: usize, values: usize) -> Result<(), Stop>
+fn update_one(
+    room: &mut [u8],
+    log: &[u8],
+    handle: u32,
+    mask: usize,
+    values: usize,
+) -> Result<(), Stop>
     requires running { Running room.old }
     requires mask_bound { mask ≤ 15 }
     requires values_len { length (values_at log.now (ones mask) values) ≡ ones mask }
@@ -97,7 +103,13 @@ fn insert_from_query(
 }
 
 // Deletes the rows of a table of which all terms hold.
-fn delete_rows(room: &mut [u8], book: &[u8], triggers: usize, table: usize, terms: Terms) -> Result<(), Stop>
+fn delete_rows(
+    room: &mut [u8],
+    book: &[u8],
+    triggers: usize,
+    table: usize,
+    terms: Terms,
+) -> Result<(), Stop>
     requires running { Running room.old }
     requires table_bound { table ≤ 3 }
     ensures { Acts room.old room.new

@@ -188,14 +188,16 @@ module _ {xs zs : List ℕ} {table n i : ℕ} (run : Running xs) (t : table ≤ 
         let q : k ≡ table = narrowed (omega arith) in
         rw (read, q) (inserted-proper zs inserting-running.represents.bytes table t WORKED i)
 
-    pub inserting-room : length (table_at zs LIVE) < ROWS
-    inserting-room = let r = space-roomy xs n space in omega (arith, inv.live, r.live)
+    room_for : length (table_at zs LIVE) < ROWS
+    room_for = let r = space-roomy xs n space in omega (arith, inv.live, r.live)
 
-    pub inserting-handles : low32_at zs NEXT < last_handle
-    inserting-handles = let r = space-roomy xs n space in omega (arith, inv.next, r.next)
+    handle_left : low32_at zs NEXT < last_handle
+    handle_left = let r = space-roomy xs n space in omega (arith, inv.next, r.next)
 
-    pub inserting-joinable : Joinable zs (as_effect 1 0 (inserted_slot zs k e))
-    inserting-joinable = insert-joinable k e proper inserting-room inserting-handles inserting-running
+    -- what the insert requires
+    pub inserting-can : (length (table_at zs LIVE) < ROWS) × (low32_at zs NEXT < last_handle)
+        × Joinable zs (as_effect 1 0 (inserted_slot zs k e))
+    inserting-can = (room_for, handle_left, insert-joinable k e proper room_for handle_left inserting-running)
 
     is-next : get_or (insertions xs table) i nothing ≡ inserts (row_meant (inserted_slot zs k e))
     unfolding inserted_slot
@@ -212,7 +214,7 @@ module _ {xs zs : List ℕ} {table n i : ℕ} (run : Running xs) (t : table ≤ 
           moves =
               rw add-one
               (moves_next (insertions xs table) i nothing (inserts (row_meant (inserted_slot zs k e))) b is-next inv.moves
-              (insert-moves k e proper inserting-room inserting-handles bytes t'));
+              (insert-moves k e proper room_for handle_left bytes t'));
           live = omega (arith, inv.live);
           next = omega (arith, t'.handle, inv.next);
         }

@@ -2,8 +2,8 @@
 use mathlib.Core.Path.{sym, ◌∙◌}
 use native.Mathlib.Omega.{arith}
 use Rattle.std.proofs.lemmas.Result.{err_from_is_err_and}
-use Rattle.changes.proofs.Inserting.{inserting-start, inserting-running, inserting-within, inserting-room}
-use Rattle.changes.proofs.Inserting.{inserting-handles, inserting-joinable, inserting-next, inserting-done, inserting-fails}
+use Rattle.changes.proofs.Inserting.{inserting-start, inserting-running, inserting-within, inserting-can, inserting-next}
+use Rattle.changes.proofs.Inserting.{inserting-done, inserting-fails}
 use Rattle.changes.proofs.insert_all.Goals as goal
 
 pub returns-in_err-space_for : goal.returns-in_err-space_for
@@ -22,11 +22,9 @@ slot_at-e-requires c =
 
 pub insert_row-requires : goal.insert_row-requires
 insert_row-requires c =
-    let space = sym c.space_for.ensures ∙ c.in_ok-space_for.was in record {
-      room_len_bound = inserting-room c.requires.running c.requires.table_bound c.size-n.ensures space c.loop-i.invariant c.loop-i-test.true c.slot_at-e.ensures c.narrow.ensures;
-      room_bound = inserting-handles c.requires.running c.requires.table_bound c.size-n.ensures space c.loop-i.invariant c.loop-i-test.true c.slot_at-e.ensures c.narrow.ensures;
-      joinable = inserting-joinable c.requires.running c.requires.table_bound c.size-n.ensures space c.loop-i.invariant c.loop-i-test.true c.slot_at-e.ensures c.narrow.ensures;
-    }
+    let can = inserting-can c.requires.running c.requires.table_bound c.size-n.ensures (sym c.space_for.ensures ∙ c.in_ok-space_for.was)
+    c.loop-i.invariant c.loop-i-test.true c.slot_at-e.ensures c.narrow.ensures in
+    record { room_len_bound = can.0; room_bound = can.1; joinable = can.2 }
 
 pub loop-i-preserved : goal.loop-i-preserved
 loop-i-preserved c =
