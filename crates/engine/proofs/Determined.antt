@@ -1,21 +1,19 @@
 -- The contracts leave no choice: they are equations with the specification, and an answer can be had back from what it stands for.
+use Rattle.std.specs.Prelude.{Ok, Err}
 use mathlib.Core.Path.{◌≡◌, refl, sym, ap, ◌∙◌}
 use Rattle.meaning.specs.Covers as Covers
 use Rattle.meaning.specs.EntryPoints as EntryPoints
 use Rattle.meaning.specs.EntryPoints.{CheckAnswer, refused_check, rule_count, refused_with, ran}
-use Rattle.changes.specs.declared.Reason.{Reason}
-use Rattle.changes.specs.declared.Reason.TheVariants.{NoSuchRow, Full, HandlesUsedUp, SumOutOfRange}
+use Rattle.rows.specs.declared.Reason.{Reason}
+use Rattle.rows.specs.declared.Reason.TheVariants.{NoSuchRow, Full, HandlesUsedUp, SumOutOfRange}
 use Rattle.changes.specs.Steps.{reason_meant}
 use Rattle.processing.specs.declared.Outcome.{Outcome}
 use Rattle.processing.specs.declared.Outcome.TheVariants.{Commit, RolledBack, StepLimit, Failed}
+use Rattle.processing.specs.declared.Ended.{Ended}
 use Rattle.processing.specs.Endings.{outcome_meant}
 use Rattle.engine.specs.declared.Refusal.{Refusal}
 use Rattle.engine.specs.declared.Refusal.TheVariants.{Output, Room, Image, Book, Cycle, Log}
-use Rattle.engine.specs.declared.Checked.{Checked}
-use Rattle.engine.specs.declared.Checked.TheVariants.{Refused, Rules}
-use Rattle.engine.specs.declared.Answer.{Answer}
-use Rattle.engine.specs.declared.Answer.TheVariants as answer
-use Rattle.engine.specs.Answers.{refusal_meant, check_meant, answer_meant}
+use Rattle.engine.specs.Answers.{Answer, Checked, refusal_meant, check_meant, answer_meant}
 use Rattle.engine.specs.Determined.{Determined}
 
 -- what can be had back from its meaning is determined by it
@@ -73,22 +71,22 @@ outcome-back (Failed r) = ap Failed (reason-back r)
 -- ---- Answers, had back
 
 answer_back : EntryPoints.Answer → Answer
-answer_back (refused_with r) = answer.Refused (refusal_back r)
-answer_back (ran o n) = answer.Ran (outcome_back o) n
+answer_back (refused_with r) = Err (refusal_back r)
+answer_back (ran o n) = Ok (record { outcome = outcome_back o; count = n })
 
 answer_back_lem : (r : Answer) → answer_back (answer_meant r) ≡ r
 unfolding answer_meant answer_back
-answer_back_lem (answer.Refused r) = ap answer.Refused (refusal-back r)
-answer_back_lem (answer.Ran o n) = ap (λ o. answer.Ran o n) (outcome-back o)
+answer_back_lem (Err r) = ap Err (refusal-back r)
+answer_back_lem (Ok e) = ap (λ (o : Outcome). Ok (record { outcome = o; count = e.count })) (outcome-back e.outcome)
 
 check_back : CheckAnswer → Checked
-check_back (refused_check r) = Refused (refusal_back r)
-check_back (rule_count n) = Rules n
+check_back (refused_check r) = Err (refusal_back r)
+check_back (rule_count n) = Ok n
 
 check-back : (r : Checked) → check_back (check_meant r) ≡ r
 unfolding check_meant check_back
-check-back (Refused r) = ap Refused (refusal-back r)
-check-back (Rules n) = refl
+check-back (Err r) = ap Err (refusal-back r)
+check-back (Ok n) = refl
 
 -- ---- The contracts
 
