@@ -1,16 +1,10 @@
 -- The contracts leave no choice: they are equations with the specification, and an answer can be had back from what it stands for.
 use Rattle.std.specs.Prelude.{Ok, Err}
 use mathlib.Core.Path.{◌≡◌, refl, sym, ap, ◌∙◌}
-use Rattle.meaning.specs.Covers as Covers
 use Rattle.meaning.specs.EntryPoints as EntryPoints
 use Rattle.meaning.specs.EntryPoints.{CheckAnswer, refused_check, rule_count, refused_with, ran}
-use Rattle.rows.specs.declared.Reason.{Reason}
-use Rattle.rows.specs.declared.Reason.TheVariants.{NoSuchRow, Full, HandlesUsedUp, SumOutOfRange}
-use Rattle.changes.specs.Steps.{reason_meant}
 use Rattle.processing.specs.declared.Outcome.{Outcome}
-use Rattle.processing.specs.declared.Outcome.TheVariants.{Commit, RolledBack, StepLimit, Failed}
-use Rattle.processing.specs.declared.Ended.{Ended}
-use Rattle.processing.specs.Endings.{outcome_meant}
+use Rattle.processing.proofs.Outcomes.{outcome_back, outcome-back}
 use Rattle.engine.specs.declared.Refusal.{Refusal}
 use Rattle.engine.specs.declared.Refusal.TheVariants.{Output, Room, Image, Book, Cycle, Log}
 use Rattle.engine.specs.Answers.{Answer, Checked, refusal_meant, check_meant, answer_meant}
@@ -21,7 +15,7 @@ module _ {A B : Type 0} (meant : A → B) (back : B → A) (same : (a : A) → b
   by-meaning : (a b : A) → meant a ≡ meant b → a ≡ b
   by-meaning a b e = sym (same a) ∙ ap back e ∙ same b
 
--- ---- Refusals, reasons and outcomes, had back
+-- ---- Refusals, had back
 
 -- 7 is the program's alone
 refusal_back : EntryPoints.Refusal → Refusal
@@ -41,32 +35,6 @@ refusal-back Image = refl
 refusal-back Book = refl
 refusal-back Cycle = refl
 refusal-back Log = refl
-
-reason_back : Covers.Reason → Reason
-reason_back Covers.Reason.no_such_row = NoSuchRow
-reason_back Covers.Reason.full = Full
-reason_back Covers.Reason.handles_used_up = HandlesUsedUp
-reason_back Covers.Reason.sum_out_of_range = SumOutOfRange
-
-reason-back : (r : Reason) → reason_back (reason_meant r) ≡ r
-unfolding reason_back
-reason-back NoSuchRow = refl
-reason-back Full = refl
-reason-back HandlesUsedUp = refl
-reason-back SumOutOfRange = refl
-
-outcome_back : Covers.Outcome → Outcome
-outcome_back Covers.Outcome.commit = Commit
-outcome_back Covers.Outcome.rolled_back = RolledBack
-outcome_back Covers.Outcome.step_limit = StepLimit
-outcome_back (Covers.Outcome.failed r) = Failed (reason_back r)
-
-outcome-back : (o : Outcome) → outcome_back (outcome_meant o) ≡ o
-unfolding outcome_back
-outcome-back Commit = refl
-outcome-back RolledBack = refl
-outcome-back StepLimit = refl
-outcome-back (Failed r) = ap Failed (reason-back r)
 
 -- ---- Answers, had back
 
