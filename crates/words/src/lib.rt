@@ -19,18 +19,6 @@ pub fn wide(x: u8) -> usize
     x as usize
 }
 
-fn join2(a: u8, b: u8) -> usize
-    ensures { result ≡ a * 256 + b }
-{
-    (a as usize) * 256 + (b as usize)
-}
-
-fn join4(a: u8, b: u8, c: u8, d: u8) -> u32
-    ensures { result ≡ a * 16777216 + b * 65536 + c * 256 + d }
-{
-    (a as u32) * 16777216 + (b as u32) * 65536 + (c as u32) * 256 + (d as u32)
-}
-
 // The byte at a place, and 256 past the end.
 pub fn byte(s: &[u8], at: usize) -> usize
     ensures { Peeked s.now at result }
@@ -52,14 +40,14 @@ pub fn word16(s: &[u8], at: usize) -> usize
     requires { at + 2 ≤ length s.now }
     ensures { (result ≡ word16_at s.now at) × (result < 65536) }
 {
-    join2(s[at], s[at + 1])
+    u16::from_be_bytes([s[at], s[at + 1]]) as usize
 }
 
 pub fn word32(s: &[u8], at: usize) -> u32
     requires { at + 4 ≤ length s.now }
     ensures { result ≡ word32_at s.now at }
 {
-    join4(s[at], s[at + 1], s[at + 2], s[at + 3])
+    u32::from_be_bytes([s[at], s[at + 1], s[at + 2], s[at + 3]])
 }
 
 // What can be read at a place comes with the place after it; `None` is malformed.
@@ -140,7 +128,7 @@ pub fn low32(s: &[u8], at: usize) -> u32
     requires { at + 4 ≤ length s.now }
     ensures { result ≡ low32_at s.now at }
 {
-    join4(s[at + 3], s[at + 2], s[at + 1], s[at])
+    u32::from_le_bytes([s[at], s[at + 1], s[at + 2], s[at + 3]])
 }
 
 pub fn put_low32(s: &mut [u8], at: usize, v: u32)
