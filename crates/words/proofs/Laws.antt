@@ -10,8 +10,11 @@ use native.Mathlib.Nat.{add-zero}
 use native.Mathlib.Omega.{arith}
 use borrow.Author.Tests.{le-leb, lt-leb, ltb-true, ltb-false}
 use lib.Dec.{leb, ltb}
-use lib.ListN.{length, get_or, set, replicate, length-set, get_or-eq_default}
-use lib.Seq.{sets, get_or-set_same, get_or-set_other}
+use lib.ListN.{length, take, get_or, set, replicate, length-set, get_or-eq_default}
+use lib.Seq.{sets, drop-drop, get_or-set_same, get_or-set_other}
+use borrow.Rule.Slice.PartMut.{put_mid}
+use Rattle.std.proofs.lemmas.List.{append_assoc}
+use Rattle.std.proofs.lemmas.List.Edits.{sets-eq}
 use Rattle.meaning.specs.Base.{Each, no_element, an_element}
 use Rattle.meaning.specs.Reading.{Read, bad, got, Parser, on_from, byte_at, byte_within, byte, number16, number32, many}
 use Rattle.meaning.specs.ByteLayouts.{value}
@@ -317,3 +320,9 @@ module _ (xs : List ℕ) (at v : ℕ) where
   pub written-low32-above : (j d : ℕ) → at + 4 ≤ j → get_or (sets xs at (low_bytes4 v)) j d ≡ get_or xs j d
   unfolding low_bytes4
   written-low32-above j d h = sets-above (low_bytes4 v) xs at j d h
+
+-- what overwrites a part is stored there, from its first place on
+pub part-sets : (xs : List ℕ) (at : ℕ) (vs : List ℕ) {ys : List ℕ} {e : ℕ} → ys ≡ vs → e ≡ at + length vs → e ≤ length xs → put_mid at (e - at) xs ys ≡ sets xs at vs
+part-sets xs at vs {ys} {e} same end fits =
+    let size : e - at ≡ length vs = omega arith in
+    rw (same, size, sets-eq vs xs at (omega arith), drop-drop (length vs) at xs) (sym (append_assoc (take at xs) vs _))

@@ -23,17 +23,14 @@ pub fn wide(x: u8) -> usize
 pub fn byte(s: &[u8], at: usize) -> usize
     ensures { Peeked s.now at result }
 {
-    if at < s.len() { wide(s[at]) } else { 256 }
+    s.get(at).map_or(256, |&x| wide(x))
 }
 
 // Whether n bytes from a place on stand in the slice.
 pub fn has(s: &[u8], at: usize, n: usize) -> bool
     ensures { result ≡ leb (at + n) (length s.now) }
 {
-    if s.len() < at {
-        return false;
-    }
-    n <= s.len() - at
+    at.checked_add(n).is_some_and(|end| end <= s.len())
 }
 
 pub fn word16(s: &[u8], at: usize) -> usize
@@ -109,18 +106,15 @@ pub fn put16(s: &mut [u8], at: usize, v: usize)
     requires { at + 2 ≤ length s.old }
     ensures { s.new ≡ sets s.old at (bytes2 v) }
 {
-    s[at] = (v / 256 % 256) as u8;
-    s[at + 1] = (v % 256) as u8;
+    let low = (v % 65536) as u16;
+    s[at..at + 2].copy_from_slice(&low.to_be_bytes());
 }
 
 pub fn put32(s: &mut [u8], at: usize, v: u32)
     requires { at + 4 ≤ length s.old }
     ensures { s.new ≡ sets s.old at (bytes4 v) }
 {
-    s[at] = (v / 16777216 % 256) as u8;
-    s[at + 1] = (v / 65536 % 256) as u8;
-    s[at + 2] = (v / 256 % 256) as u8;
-    s[at + 3] = (v % 256) as u8;
+    s[at..at + 4].copy_from_slice(&v.to_be_bytes());
 }
 
 // The same two with the low byte first: the words of the working room.
@@ -135,10 +129,7 @@ pub fn put_low32(s: &mut [u8], at: usize, v: u32)
     requires { at + 4 ≤ length s.old }
     ensures { s.new ≡ sets s.old at (low_bytes4 v) }
 {
-    s[at] = (v % 256) as u8;
-    s[at + 1] = (v / 256 % 256) as u8;
-    s[at + 2] = (v / 65536 % 256) as u8;
-    s[at + 3] = (v / 16777216 % 256) as u8;
+    s[at..at + 4].copy_from_slice(&v.to_le_bytes());
 }
 
 // Bit k of a mask, as 0 or 1.
@@ -164,17 +155,6 @@ pub fn meet(a: usize, b: usize) -> bool
     a & b != 0
 }
 
-// The value plus 2147483648: a word whose order is that of the values.
-fn lifted(w: u32) -> u32
-    ensures { result ≡ (w + 2147483648) % 4294967296 }
-{
-    if w < 2147483648 {
-        w + 2147483648
-    } else {
-        w - 2147483648
-    }
-}
-
 pub fn agree(a: u32, b: u32) -> bool
     ensures { result ≡ values_agree (signed a) (signed b) }
 {
@@ -185,11 +165,11 @@ pub fn agree(a: u32, b: u32) -> bool
 pub fn compare(op: usize, a: u32, b: u32) -> bool
     ensures { result ≡ values_compare (comparison op) (signed a) (signed b) }
 {
-    let x = lifted(a);
-    let y = lifted(b);
+    let x = a.cast_signed();
+    let y = b.cast_signed();
     match op {
-        0 => a == b,
-        1 => a != b,
+        0 => x == y,
+        1 => x != y,
         2 => x < y,
         3 => x <= y,
         4 => y < x,
@@ -201,9 +181,6 @@ pub fn compare(op: usize, a: u32, b: u32) -> bool
 pub fn plus(a: u32, b: u32) -> Option<u32>
     ensures { sum_meant result ≡ values_plus (signed a) (signed b) }
 {
-    let t = (lifted(a) as u64) + (lifted(b) as u64);
-    if t < 2147483648 || t >= 6442450944 {
-        return None;
-    }
-    Some((t % 4294967296) as u32)
+    let sum = a.cast_signed().checked_add(b.cast_signed())?;
+    Some(sum.cast_unsigned())
 }
