@@ -11,6 +11,7 @@ use lib.Signed.{mag}
 use lib.Dec.{ltb, leb, eqb}
 use mir.Syntax.{w32}
 use mir.Val.{SFits, of_z, to_z}
+use Rattle.std.proofs.lemmas.Grind.{common_steps}
 use Rattle.std.proofs.lemmas.Int.{of_z-to_z, to_z-of_z}
 use Rattle.meaning.specs.Values.{signed, agree, in_range}
 use Rattle.words.proofs.Laws.{split}
@@ -35,7 +36,7 @@ module _ {z : ℤ} {n : ℕ} (cast : z ≡ to_z w32 n) (fits : n < 4294967296) w
 pub word-stands : {n : ℕ} {sum z : ℤ} → n ≡ of_z w32 (to_z w32 (of_z w32 sum)) → sum ≡ z → SFits w32 z → signed n ≡ z
 word-stands {n} {sum} {z} word same fits =
     let back : to_z w32 (of_z w32 z) ≡ z = to_z-of_z w32 z fits in
-    sym (cast-signed n) ∙ ap (λ (k : ℕ). to_z w32 k) (word ∙ ap (λ (y : ℤ). of_z w32 (to_z w32 (of_z w32 y))) same ∙ ap (λ (y : ℤ). of_z w32 y) back) ∙ back
+    sym (cast-signed n) ∙ rw (word, same, back, back)
 
 -- ---- The range
 
@@ -54,30 +55,12 @@ out-of-range {z} out =
 
 -- at most and at least is equal
 both-eqb : (a b : ℕ) → leb a b && leb b a ≡ eqb a b
-both-eqb a b =
-    split (eqb a b)
-    (λ e. let q = eqb-true a b e in rw (le-leb a b (omega arith), le-leb b a (omega arith), e))
-    (λ e.
-    split (leb a b)
-    (λ f. rw (f, lt-leb b a (let n = eqb-false a b e in let h = leb-true a b f in omega arith), e))
-    (λ f. rw (f, e)))
+both-eqb a b = grind (arith, common_steps)
 
 -- two values agree where their words are equal
 pub signed-agree : (a b : ℕ) → a < 4294967296 → b < 4294967296 → agree (signed a) (signed b) ≡ eqb a b
 unfolding agree signed
 signed-agree a b fa fb =
     split (ltb a 2147483648)
-    (λ e.
-    split (ltb b 2147483648)
-    (λ f. rw (e, f) (both-eqb a b))
-    (λ f. rw (e, f) (sym (ne_eqb a b (omega (arith, ltb-true a 2147483648 e, ltb-false b 2147483648 f))))))
-    (λ e.
-    split (ltb b 2147483648)
-    (λ f. rw (e, f) (sym (ne_eqb a b (omega (arith, ltb-false a 2147483648 e, ltb-true b 2147483648 f)))))
-    (λ f. rw (e, f, both-eqb (4294967295 - b) (4294967295 - a)) (lowered e f)))
-  where
-    lowered : ltb a 2147483648 ≡ false → ltb b 2147483648 ≡ false → eqb (4294967295 - b) (4294967295 - a) ≡ eqb a b
-    lowered e f =
-        split (eqb a b)
-        (λ g. let same = eqb-true a b g in rw (g, eq-eqb (4294967295 - b) (4294967295 - a) (omega arith)))
-        (λ g. let other = eqb-false a b g in rw (g, ne_eqb (4294967295 - b) (4294967295 - a) (λ q. other (omega arith))))
+    (λ e. split (ltb b 2147483648) (λ f. rw (e, f) (grind (arith, common_steps))) (λ f. rw (e, f) (grind (arith, common_steps))))
+    (λ e. split (ltb b 2147483648) (λ f. rw (e, f) (grind (arith, common_steps))) (λ f. rw (e, f) (grind (arith, common_steps))))
