@@ -80,10 +80,6 @@ byte-short s at h = byte-within-high 0 255 s at (omega (arith, byte_past s at h)
 -- ---- Numbers
 
 module _ (s : List ℕ) (b : Bytes s) (at : ℕ) where
-  pub word16-lt : word16_at s at < 65536
-  unfolding word16_at
-  word16-lt = omega (arith, b at, b (at + 1))
-
   pub low32-lt : low32_at s at < 4294967296
   unfolding low32_at
   low32-lt = omega (arith, b at, b (at + 1), b (at + 2), b (at + 3))
@@ -201,11 +197,6 @@ module _ {A B : Type 0} where
   unfolding end_of
   ends_on bad f g next same h = cc
   ends_on (got x e) f g next same h = same x e ∙ ap g (cc)
-
-  pub ends-on-bad : (r : Read A) (f : A → ℕ → Read B) → end_of r ≡ None → end_of (on_from r f) ≡ None
-  unfolding end_of
-  ends-on-bad bad f h = refl
-  ends-on-bad (got x e) f h = cc
 
   -- a value made of what was read ends where that ends
   pub ends-made : (r : Read A) (f : A → B) → end_of (on_from r (λ x e. got (f x) e)) ≡ end_of r

@@ -1,28 +1,22 @@
 -- Laws of words as signed values: the library's signed number of a word is the specification's value of it, and its sum is that of the
 -- values.
-use mathlib.Core.Path.{◌≡◌, sym, ap, ◌∙◌}
-use mathlib.Core.Bool.{false, ◌&&◌}
+use mathlib.Core.Path.{◌≡◌, sym, ◌∙◌}
 use mathlib.Core.Option.{none, some}
-use Prim.Native.Nat.{ℕ, suc, ◌-◌, ◌<◌}
+use Prim.Native.Nat.{ℕ, ◌<◌}
 use native.Mathlib.Omega.{arith}
-use borrow.Author.Tests.{ltb-true, ltb-false, lt-leb, le-leb, leb-true, eqb-true, eqb-false, eq-eqb, ne_eqb}
-use lib.IntN.{ℤ, negsuc}
-use lib.Signed.{mag}
-use lib.Dec.{ltb, leb, eqb}
+use lib.IntN.{ℤ}
+use lib.Dec.{eqb}
 use mir.Syntax.{w32}
 use mir.Val.{SFits, of_z, to_z}
 use Rattle.std.proofs.lemmas.Grind.{common_steps}
 use Rattle.std.proofs.lemmas.Int.{of_z-to_z, to_z-of_z}
 use Rattle.meaning.specs.Values.{signed, agree, in_range}
-use Rattle.words.proofs.Laws.{split}
 
 -- ---- What the library reads and writes
 
 pub cast-signed : (n : ℕ) → to_z w32 n ≡ signed n
 unfolding signed
-cast-signed n =
-    let below : 4294967296 - suc n ≡ 4294967295 - n = omega arith in
-    split (ltb n 2147483648) (λ e. rw e) (λ e. rw e (ap negsuc below))
+cast-signed n = grind (arith, common_steps)
 
 -- a word that was cast to a signed number is its word again, and as an operand its value
 module _ {z : ℤ} {n : ℕ} (cast : z ≡ to_z w32 n) (fits : n < 4294967296) where
@@ -42,25 +36,15 @@ word-stands {n} {sum} {z} word same fits =
 
 pub in-range : {z : ℤ} → SFits w32 z → in_range z ≡ some z
 unfolding in_range
-in-range {z} fits = rw (le-leb (mag z) 2147483647 (omega (arith, fits.sfits)))
+in-range {z} fits = grind (arith, common_steps)
 
 pub out-of-range : {z : ℤ} → (SFits w32 z → ⊥) → in_range z ≡ none
 unfolding in_range
-out-of-range {z} out =
-    split (ltb (mag z) 2147483648)
-    (λ e. absurd (out (record { sfits = ltb-true (mag z) 2147483648 e })))
-    (λ e. rw (lt-leb (mag z) 2147483647 (omega (arith, ltb-false (mag z) 2147483648 e))))
+out-of-range {z} out = grind (arith, common_steps)
 
 -- ---- Equality
-
--- at most and at least is equal
-both-eqb : (a b : ℕ) → leb a b && leb b a ≡ eqb a b
-both-eqb a b = grind (arith, common_steps)
 
 -- two values agree where their words are equal
 pub signed-agree : (a b : ℕ) → a < 4294967296 → b < 4294967296 → agree (signed a) (signed b) ≡ eqb a b
 unfolding agree signed
-signed-agree a b fa fb =
-    split (ltb a 2147483648)
-    (λ e. split (ltb b 2147483648) (λ f. rw (e, f) (grind (arith, common_steps))) (λ f. rw (e, f) (grind (arith, common_steps))))
-    (λ e. split (ltb b 2147483648) (λ f. rw (e, f) (grind (arith, common_steps))) (λ f. rw (e, f) (grind (arith, common_steps))))
+signed-agree a b fa fb = grind (arith, common_steps)

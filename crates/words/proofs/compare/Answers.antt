@@ -9,14 +9,12 @@ use Rattle.words.proofs.compare.Goals as goal
 pub returns-in-0 : goal.returns-in-0
 unfolding values_compare comparison
 returns-in-0 c =
-    rw (c.in-0.is, cast_back c.cast_signed-x.ensures c.ranges.a.fits, cast_back c.cast_signed-y.ensures c.ranges.b.fits)
-    (rw (signed-agree c.args.a c.args.b c.ranges.a.fits c.ranges.b.fits))
+    rw (c.in-0.is, cast_back c.cast_signed-x.ensures c.ranges.a.fits, cast_back c.cast_signed-y.ensures c.ranges.b.fits, signed-agree c.args.a c.args.b c.ranges.a.fits c.ranges.b.fits)
 
 pub returns-in-1 : goal.returns-in-1
 unfolding values_compare comparison
 returns-in-1 c =
-    rw (c.in-1.is, cast_back c.cast_signed-x.ensures c.ranges.a.fits, cast_back c.cast_signed-y.ensures c.ranges.b.fits)
-    (rw (signed-agree c.args.a c.args.b c.ranges.a.fits c.ranges.b.fits))
+    rw (c.in-1.is, cast_back c.cast_signed-x.ensures c.ranges.a.fits, cast_back c.cast_signed-y.ensures c.ranges.b.fits, signed-agree c.args.a c.args.b c.ranges.a.fits c.ranges.b.fits)
 
 pub returns-in-2 : goal.returns-in-2
 unfolding values_compare comparison
