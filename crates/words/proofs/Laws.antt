@@ -10,8 +10,11 @@ use native.Mathlib.Nat.{add-zero}
 use native.Mathlib.Omega.{arith}
 use borrow.Author.Tests.{le-leb, lt-leb, ltb-true, ltb-false}
 use lib.Dec.{leb, ltb}
-use lib.ListN.{length, get_or, set, replicate, length-set, get_or-eq_default}
-use lib.Seq.{sets, get_or-set_same, get_or-set_other}
+use lib.ListN.{length, take, get_or, set, replicate, length-set, get_or-eq_default}
+use lib.Seq.{sets, drop-drop, get_or-set_same, get_or-set_other}
+use borrow.Rule.Slice.PartMut.{put_mid}
+use Rattle.std.proofs.lemmas.List.{append_assoc}
+use Rattle.std.proofs.lemmas.List.Edits.{sets-eq}
 use Rattle.meaning.specs.Base.{Each, no_element, an_element}
 use Rattle.meaning.specs.Reading.{Read, bad, got, Parser, on_from, byte_at, byte_within, byte, number16, number32, many}
 use Rattle.meaning.specs.ByteLayouts.{value}
@@ -77,10 +80,6 @@ byte-short s at h = byte-within-high 0 255 s at (omega (arith, byte_past s at h)
 -- ---- Numbers
 
 module _ (s : List ℕ) (b : Bytes s) (at : ℕ) where
-  pub word16-lt : word16_at s at < 65536
-  unfolding word16_at
-  word16-lt = omega (arith, b at, b (at + 1))
-
   pub low32-lt : low32_at s at < 4294967296
   unfolding low32_at
   low32-lt = omega (arith, b at, b (at + 1), b (at + 2), b (at + 3))
@@ -199,11 +198,6 @@ module _ {A B : Type 0} where
   ends_on bad f g next same h = cc
   ends_on (got x e) f g next same h = same x e ∙ ap g (cc)
 
-  pub ends-on-bad : (r : Read A) (f : A → ℕ → Read B) → end_of r ≡ None → end_of (on_from r f) ≡ None
-  unfolding end_of
-  ends-on-bad bad f h = refl
-  ends-on-bad (got x e) f h = cc
-
   -- a value made of what was read ends where that ends
   pub ends-made : (r : Read A) (f : A → B) → end_of (on_from r (λ x e. got (f x) e)) ≡ end_of r
   unfolding end_of
@@ -317,3 +311,9 @@ module _ (xs : List ℕ) (at v : ℕ) where
   pub written-low32-above : (j d : ℕ) → at + 4 ≤ j → get_or (sets xs at (low_bytes4 v)) j d ≡ get_or xs j d
   unfolding low_bytes4
   written-low32-above j d h = sets-above (low_bytes4 v) xs at j d h
+
+-- what overwrites a part is stored there, from its first place on
+pub part-sets : (xs : List ℕ) (at : ℕ) (vs : List ℕ) {ys : List ℕ} {e : ℕ} → ys ≡ vs → e ≡ at + length vs → e ≤ length xs → put_mid at (e - at) xs ys ≡ sets xs at vs
+part-sets xs at vs {ys} {e} same end fits =
+    let size : e - at ≡ length vs = omega arith in
+    rw (same, size, sets-eq vs xs at (omega arith), drop-drop (length vs) at xs) (sym (append_assoc (take at xs) vs _))

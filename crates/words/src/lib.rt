@@ -19,47 +19,32 @@ pub fn wide(x: u8) -> usize
     x as usize
 }
 
-fn join2(a: u8, b: u8) -> usize
-    ensures { result ≡ a * 256 + b }
-{
-    (a as usize) * 256 + (b as usize)
-}
-
-fn join4(a: u8, b: u8, c: u8, d: u8) -> u32
-    ensures { result ≡ a * 16777216 + b * 65536 + c * 256 + d }
-{
-    (a as u32) * 16777216 + (b as u32) * 65536 + (c as u32) * 256 + (d as u32)
-}
-
 // The byte at a place, and 256 past the end.
 pub fn byte(s: &[u8], at: usize) -> usize
     ensures { Peeked s.now at result }
 {
-    if at < s.len() { wide(s[at]) } else { 256 }
+    s.get(at).map_or(256, |&x| wide(x))
 }
 
 // Whether n bytes from a place on stand in the slice.
 pub fn has(s: &[u8], at: usize, n: usize) -> bool
     ensures { result ≡ leb (at + n) (length s.now) }
 {
-    if s.len() < at {
-        return false;
-    }
-    n <= s.len() - at
+    at.checked_add(n).is_some_and(|end| end <= s.len())
 }
 
 pub fn word16(s: &[u8], at: usize) -> usize
     requires { at + 2 ≤ length s.now }
     ensures { (result ≡ word16_at s.now at) × (result < 65536) }
 {
-    join2(s[at], s[at + 1])
+    u16::from_be_bytes([s[at], s[at + 1]]) as usize
 }
 
 pub fn word32(s: &[u8], at: usize) -> u32
     requires { at + 4 ≤ length s.now }
     ensures { result ≡ word32_at s.now at }
 {
-    join4(s[at], s[at + 1], s[at + 2], s[at + 3])
+    u32::from_be_bytes([s[at], s[at + 1], s[at + 2], s[at + 3]])
 }
 
 // What can be read at a place comes with the place after it; `None` is malformed.
@@ -121,18 +106,15 @@ pub fn put16(s: &mut [u8], at: usize, v: usize)
     requires { at + 2 ≤ length s.old }
     ensures { s.new ≡ sets s.old at (bytes2 v) }
 {
-    s[at] = (v / 256 % 256) as u8;
-    s[at + 1] = (v % 256) as u8;
+    let low = (v % 65536) as u16;
+    s[at..at + 2].copy_from_slice(&low.to_be_bytes());
 }
 
 pub fn put32(s: &mut [u8], at: usize, v: u32)
     requires { at + 4 ≤ length s.old }
     ensures { s.new ≡ sets s.old at (bytes4 v) }
 {
-    s[at] = (v / 16777216 % 256) as u8;
-    s[at + 1] = (v / 65536 % 256) as u8;
-    s[at + 2] = (v / 256 % 256) as u8;
-    s[at + 3] = (v % 256) as u8;
+    s[at..at + 4].copy_from_slice(&v.to_be_bytes());
 }
 
 // The same two with the low byte first: the words of the working room.
@@ -140,17 +122,14 @@ pub fn low32(s: &[u8], at: usize) -> u32
     requires { at + 4 ≤ length s.now }
     ensures { result ≡ low32_at s.now at }
 {
-    join4(s[at + 3], s[at + 2], s[at + 1], s[at])
+    u32::from_le_bytes([s[at], s[at + 1], s[at + 2], s[at + 3]])
 }
 
 pub fn put_low32(s: &mut [u8], at: usize, v: u32)
     requires { at + 4 ≤ length s.old }
     ensures { s.new ≡ sets s.old at (low_bytes4 v) }
 {
-    s[at] = (v % 256) as u8;
-    s[at + 1] = (v / 256 % 256) as u8;
-    s[at + 2] = (v / 65536 % 256) as u8;
-    s[at + 3] = (v / 16777216 % 256) as u8;
+    s[at..at + 4].copy_from_slice(&v.to_le_bytes());
 }
 
 // Bit k of a mask, as 0 or 1.
@@ -176,17 +155,6 @@ pub fn meet(a: usize, b: usize) -> bool
     a & b != 0
 }
 
-// The value plus 2147483648: a word whose order is that of the values.
-fn lifted(w: u32) -> u32
-    ensures { result ≡ (w + 2147483648) % 4294967296 }
-{
-    if w < 2147483648 {
-        w + 2147483648
-    } else {
-        w - 2147483648
-    }
-}
-
 pub fn agree(a: u32, b: u32) -> bool
     ensures { result ≡ values_agree (signed a) (signed b) }
 {
@@ -197,11 +165,11 @@ pub fn agree(a: u32, b: u32) -> bool
 pub fn compare(op: usize, a: u32, b: u32) -> bool
     ensures { result ≡ values_compare (comparison op) (signed a) (signed b) }
 {
-    let x = lifted(a);
-    let y = lifted(b);
+    let x = a.cast_signed();
+    let y = b.cast_signed();
     match op {
-        0 => a == b,
-        1 => a != b,
+        0 => x == y,
+        1 => x != y,
         2 => x < y,
         3 => x <= y,
         4 => y < x,
@@ -213,9 +181,6 @@ pub fn compare(op: usize, a: u32, b: u32) -> bool
 pub fn plus(a: u32, b: u32) -> Option<u32>
     ensures { sum_meant result ≡ values_plus (signed a) (signed b) }
 {
-    let t = (lifted(a) as u64) + (lifted(b) as u64);
-    if t < 2147483648 || t >= 6442450944 {
-        return None;
-    }
-    Some((t % 4294967296) as u32)
+    let sum = a.cast_signed().checked_add(b.cast_signed())?;
+    Some(sum.cast_unsigned())
 }

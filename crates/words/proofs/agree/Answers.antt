@@ -1,7 +1,7 @@
 -- `words::agree` meets its contract: values agree where their words are equal.
-use borrow.Author.Rules.{rules}
+use mathlib.Core.Path.{sym}
 use Rattle.words.proofs.Signs.{signed-agree}
 use Rattle.words.proofs.agree.Goals as goal
 
 pub returns : goal.returns
-returns c = rw (signed-agree c.args.a c.args.b (search rules) (search rules))
+returns c = sym (signed-agree c.args.a c.args.b c.ranges.a.fits c.ranges.b.fits)

@@ -1,21 +1,26 @@
--- `words::plus` meets its contract: lifted words have the sum of the values, which is a word's where it is in the range.
+-- `words::plus` meets its contract: the library's sum is that of the values, and the range the same.
 use borrow.Author.Rules.{rules}
-use mathlib.Core.Logic.{inl, inr}
-use mathlib.Core.Path.{sym}
+use mathlib.Core.Path.{◌≡◌, sym}
+use lib.IntN.{◌+ℤ◌}
+use mir.Syntax.{w32}
+use mir.Val.{SFits}
+use Rattle.meaning.specs.Values.{signed, plus as values_plus}
 use Rattle.words.specs.Words.{option_as}
-use Rattle.words.proofs.Signs.{sum_low, sum-high, sum-in}
+use Rattle.words.proofs.Signs.{cast_operand, word-stands, in-range, out-of-range}
 use Rattle.words.proofs.plus.Goals as goal
 
-pub returns-then-t-lt2147483648 : goal.returns-then-t-lt2147483648
-unfolding option_as
-returns-then-t-lt2147483648 c =
-    elim c.then-t-lt2147483648.either [
-      | inl low ↦ sym (sum_low c.args.a c.args.b (search rules) (search rules) (search rules))
-      | inr high ↦ sym (sum-high c.args.a c.args.b (search rules) (search rules) (search rules))
-    ]
+pub returns-in_err-sum : goal.returns-in_err-sum
+unfolding option_as values_plus
+returns-in_err-sum c =
+    let x = cast_operand c.cast_signed.ensures c.ranges.a.fits in
+    let y = cast_operand c.cast_signed-2.ensures c.ranges.b.fits in
+    rw c.from_residual.ensures (sym (out-of-range (λ fits. c.in_err-sum.ensures (rw (x, y) fits))))
 
 pub returns : goal.returns
-unfolding option_as
+unfolding option_as values_plus
 returns c =
-    rw (c.lifted.ensures, c.lifted-2.ensures)
-    (sym (sum-in c.args.a c.args.b (search rules) (search rules) (search rules) (search rules)))
+    let x = cast_operand c.cast_signed.ensures c.ranges.a.fits in
+    let y = cast_operand c.cast_signed-2.ensures c.ranges.b.fits in
+    let sum : c.in_ok-sum.sum ≡ signed c.args.a +ℤ signed c.args.b = rw (← x, ← y) (search rules) in
+    let fits : SFits w32 (signed c.args.a +ℤ signed c.args.b) = rw (← x, ← y) (search rules) in
+    rw (word-stands c.cast_unsigned.ensures sum fits) (sym (in-range fits))
