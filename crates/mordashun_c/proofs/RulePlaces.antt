@@ -1,7 +1,7 @@
 -- The word of a rule's place. What is read of a book stands in it, and a rule takes bytes; an accepted book is short. So start and size fit
 -- their bits, and a caller who takes the word apart finds the rule's bytes.
 use Rattle.std.specs.Prelude.{if◌then◌else◌, Option, Some, None}
-use mathlib.Core.Path.{◌≡◌, refl, sym, ap, ◌∙◌}
+use mathlib.Core.Path.{◌≡◌, refl}
 use mathlib.Core.Bool.{Bool, true, false}
 use mathlib.Core.List.{List, []}
 use mathlib.Core.Option.{some}

@@ -1,5 +1,4 @@
 -- `engine::rule_count` meets its contract: a book has a count of rules where its judge and its plan refuse nothing.
-use mathlib.Core.Path.{◌∙◌}
 use Rattle.engine.specs.Answers.{rules_in}
 use Rattle.engine.proofs.Judged.{refused-malformed, told, without-order, with-order, rules-counted}
 use Rattle.engine.proofs.rule_count.Goals as goal
