@@ -8,6 +8,7 @@ use native.Mathlib.Omega.{arith}
 use borrow.Author.Tests.{lt-ltb, le-ltb}
 use lib.ListN.{length, take, drop, length-drop}
 use lib.Seq.{take-append_seam, take_all}
+use Rattle.std.specs.Prelude.{Option, None, Ok, Err}
 use Rattle.meaning.specs.Base.{ascii}
 use Rattle.meaning.specs.Reading.{read_all}
 use Rattle.meaning.specs.Covers.{Image, commit, rolled_back, step_limit, failed}
@@ -22,16 +23,14 @@ use Rattle.meaning.specs.Runs.{Accepted, ending_of, is_refused, is_accepted}
 use Rattle.meaning.proofs.WrittenRead.{written_read}
 use Rattle.meaning.proofs.RunsFit.{run_sound, run-end-sound, run-limit}
 use Rattle.meaning.proofs.Theorems.{every-run, is_lawful}
+use Rattle.words.specs.Words.{option_as}
 use Rattle.image.specs.Images.{image_or}
-use Rattle.image.specs.declared.ImageRead.{ImageRead}
-use Rattle.image.specs.declared.ImageRead.TheVariants.{Bad}
-use Rattle.processing.specs.declared.Outcome.{Outcome}
+use Rattle.image.specs.declared.Head.{Head}
+use Rattle.processing.specs.declared.Ended.{Ended}
 use Rattle.processing.specs.Endings.{outcome_meant}
-use Rattle.engine.specs.declared.Answer.{Answer}
-use Rattle.engine.specs.declared.Answer.TheVariants.{Refused, Ran}
 use Rattle.engine.specs.declared.Refusal.{Refusal}
 use Rattle.engine.specs.declared.Refusal.TheVariants as refusal
-use Rattle.engine.specs.Answers.{refusal_meant, answer_meant, Runs}
+use Rattle.engine.specs.Answers.{Answer, refusal_meant, answer_meant, Runs}
 use Rattle.lines.specs.Text.{Puts, PutsRun}
 use Rattle.text.specs.Tells.{Showable, Tells, Telling, PutsLines}
 use Rattle.text.specs.Texts.{Texts, run_on}
@@ -82,45 +81,46 @@ front_read {start = start} {e = e} t =
 
 module _ {image : List ℕ} {before after : List ℕ} {n : ℕ} where
   pub refused-lines : (r : Refusal) {m : ℕ} → m ≡ refusal_number (refusal_meant r)
-      → Puts before after (line (ascii "refused") (decimal m ∷ [])) n → PutsLines before after image (Refused r) n
+      → Puts before after (line (ascii "refused") (decimal m ∷ [])) n → PutsLines before after image (Err r) n
   unfolding answer_meant answer_of lines refusal_line
   refused-lines r {m} e p = record { is = λ v t. go v t.answer }
     where
-      go : (v : Verdict) → answer_meant (Refused r) ≡ answer_of v → Puts before after (lines v) n
+      go : (v : Verdict) → answer_meant (Err r) ≡ answer_of v → Puts before after (lines v) n
       go (refused x) q = let same : x ≡ refusal_meant r = cc in rw (same, ← e) p
       go (accepted start end) q = absurd (let z : ◌≡◌ {A = ℕ} 0 1 = cc in omega arith)
 
-  pub ran-lines : (o : Outcome) (c : ℕ) {a b end : ℕ} → end ≡ first_part image → PutsRun before after (take (end - 0) image) a b c n
-      → a ≡ outcome_number (outcome_meant o) → b ≡ reason_number (outcome_meant o) → PutsLines before after image (Ran o c) n
+  pub ran-lines : (ended : Ended) {a b end : ℕ} → end ≡ first_part image → PutsRun before after (take (end - 0) image) a b ended.count n
+      → a ≡ outcome_number (outcome_meant ended.outcome) → b ≡ reason_number (outcome_meant ended.outcome)
+      → PutsLines before after image (Ok ended) n
   unfolding answer_meant answer_of lines run_lines
-  ran-lines o c {a} {b} {end} cut p f g = record { is = λ v t. go v t t.answer }
+  ran-lines ended {a} {b} {end} cut p f g = record { is = λ v t. go v t t.answer }
     where
-      go : (v : Verdict) → Tells image (Ran o c) v → answer_meant (Ran o c) ≡ answer_of v → Puts before after (lines v) n
+      go : (v : Verdict) → Tells image (Ok ended) v → answer_meant (Ok ended) ≡ answer_of v → Puts before after (lines v) n
       go (refused x) t q = absurd (let z : ◌≡◌ {A = ℕ} 0 1 = cc in omega arith)
       go (accepted start e) t q =
-          let same : outcome_meant o ≡ e.outcome = cc in
-          let times : c ≡ e.count = cc in
+          let same : outcome_meant ended.outcome ≡ e.outcome = cc in
+          let times : ended.count ≡ e.count = cc in
           let whole : end - 0 ≡ first_part image = omega (arith, cut) in
           rw (← same, ← times, ← f, ← g, same) (p.is (handed_back e.outcome start e.image) (rw whole (front_read t)))
 
 -- ---- What a run that was not refused tells
 
-module _ {image : List ℕ} {o : Outcome} {c : ℕ} (telling : Telling image (Ran o c)) where
-  pub count_small : c ≤ 4294967295
+module _ {image : List ℕ} {ended : Ended} (telling : Telling image (Ok ended)) where
+  pub count_small : ended.count ≤ 4294967295
   unfolding answer_meant answer_of
   count_small = go telling.verdict telling.tells telling.tells.answer
     where
-      go : (v : Verdict) → Tells image (Ran o c) v → answer_meant (Ran o c) ≡ answer_of v → c ≤ 4294967295
+      go : (v : Verdict) → Tells image (Ok ended) v → answer_meant (Ok ended) ≡ answer_of v → ended.count ≤ 4294967295
       go (refused x) t q = absurd (let z : ◌≡◌ {A = ℕ} 0 1 = cc in omega arith)
-      go (accepted start e) t q = let times : c ≡ e.count = cc in omega (arith, t.showable.1)
+      go (accepted start e) t q = let times : ended.count ≡ e.count = cc in omega (arith, t.showable.1)
 
   -- its image is not malformed
-  pub not-bad : {A : Type 0} {r : ImageRead} {end : ℕ} → end ≡ first_part image
-      → image_or (take (end - 0) image) r ≡ read_all ByteLayouts.image (take (end - 0) image) → r ≡ Bad → A
-  unfolding answer_meant answer_of image_or
+  pub not-bad : {A : Type 0} {r : Option Head} {end : ℕ} → end ≡ first_part image
+      → image_or (take (end - 0) image) r ≡ read_all ByteLayouts.image (take (end - 0) image) → r ≡ None → A
+  unfolding answer_meant answer_of image_or option_as
   not-bad {A} {r} {end} cut f is = go telling.verdict telling.tells telling.tells.answer
     where
-      go : (v : Verdict) → Tells image (Ran o c) v → answer_meant (Ran o c) ≡ answer_of v → A
+      go : (v : Verdict) → Tells image (Ok ended) v → answer_meant (Ok ended) ≡ answer_of v → A
       go (refused x) t q = absurd (let z : ◌≡◌ {A = ℕ} 0 1 = cc in omega arith)
       go (accepted start e) t q =
           let whole : end - 0 ≡ first_part image = omega (arith, cut) in

@@ -13,13 +13,13 @@ pub put_ran-requires : goal.put_ran-requires
 put_ran-requires c =
     record {
       in_bounds = c.requires.in_bounds;
-      telling = rw c.in-Ran.is at c.requires.telling;
+      telling = rw c.in-Ok.is at c.requires.telling;
     }
 
-pub returns-in-Refused : goal.returns-in-Refused
-returns-in-Refused c =
-    rw c.in-Refused.is (refused-lines _ c.refusal.ensures c.put_refused.ensures)
+pub returns-in-Err : goal.returns-in-Err
+returns-in-Err c =
+    rw c.in-Err.is (refused-lines _ c.refusal.ensures c.put_refused.ensures)
 
-pub returns-in-Ran : goal.returns-in-Ran
-returns-in-Ran c =
-    rw c.in-Ran.is c.put_ran.ensures
+pub returns-in-Ok : goal.returns-in-Ok
+returns-in-Ok c =
+    rw c.in-Ok.is c.put_ran.ensures

@@ -8,7 +8,7 @@ slice_bounds-s-end c = c.part_end-n.ensures.upper_bound
 
 pub put_run-requires : goal.put_run-requires
 put_run-requires c =
-    let o = outcome_meant c.args.outcome in
+    let o = outcome_meant c.args.ended.outcome in
     record {
       in_bounds = c.requires.in_bounds;
       outcome_bound = (
@@ -16,14 +16,14 @@ put_run-requires c =
         rw c.reason.ensures (reason-small o),
         count_small c.requires.telling,
       );
-      well_formed = c.in-Is.ensures.told;
+      well_formed = c.in-Some.ensures.told;
     }
 
-pub returns-in-Is : goal.returns-in-Is
-returns-in-Is c =
-    ran-lines c.args.outcome c.args.count c.part_end-n.ensures.value c.put_run.ensures
+pub returns-in-Some : goal.returns-in-Some
+returns-in-Some c =
+    ran-lines c.args.ended c.part_end-n.ensures.value c.put_run.ensures
     c.outcome.ensures c.reason.ensures
 
-pub returns-in-Bad : goal.returns-in-Bad
-returns-in-Bad c =
-    not-bad c.requires.telling c.part_end-n.ensures.value c.judge.ensures.result_value c.in-Bad.is
+pub returns-in-None : goal.returns-in-None
+returns-in-None c =
+    not-bad c.requires.telling c.part_end-n.ensures.value c.judge.ensures.result_value c.in-None.is
