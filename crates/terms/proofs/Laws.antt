@@ -62,10 +62,10 @@ by-last-bit : (t : Bool) (x : Source) (s : List ℕ) (at : ℕ) → (if t then p
 by-last-bit true x s at = refl
 by-last-bit false x s at = refl
 
-pub source-of : (triggers n : ℕ) (s : List ℕ) (at : ℕ)
+pub source_read : (triggers n : ℕ) (s : List ℕ) (at : ℕ)
     → source_of triggers n s at ≡ (if source_fits triggers n then got (source_meant n) at else bad)
 unfolding source_of source_fits source_meant
-source-of triggers n s at =
+source_read triggers n s at =
     split (ltb n 4) (λ e. rw e) (λ e4.
     split (eqb n 4) (λ e. rw (eqb-true n 4 e) (by_bit (bit triggers 0) Source.inserted s at)) (λ n4.
     split (eqb n 5) (λ e. rw (eqb-true n 5 e) (by_bit (bit triggers 1) Source.deleted s at)) (λ n5.

@@ -2,12 +2,10 @@
 use borrow.Author.Rules.{rules}
 use mathlib.Core.Logic.{inl, inr}
 use mathlib.Core.Path.{sym}
-use Rattle.words.specs.Words.{option_as}
 use Rattle.words.proofs.Signs.{sum_low, sum-high, sum-in}
 use Rattle.words.proofs.plus.Goals as goal
 
 pub returns-then-t-lt2147483648 : goal.returns-then-t-lt2147483648
-unfolding option_as
 returns-then-t-lt2147483648 c =
     elim c.then-t-lt2147483648.either [
       | inl low ↦ sym (sum_low c.args.a c.args.b (search rules) (search rules) (search rules))
@@ -15,7 +13,6 @@ returns-then-t-lt2147483648 c =
     ]
 
 pub returns : goal.returns
-unfolding option_as
 returns c =
     rw (c.lifted.ensures, c.lifted-2.ensures)
     (sym (sum-in c.args.a c.args.b (search rules) (search rules) (search rules) (search rules)))
