@@ -14,7 +14,7 @@ module _ {A : Type 0} (p : Parser A) where
   at-short q = absurd (let z : ◌≡◌ {A = ℕ} 0 1 = cc in omega arith)
 
   pub not_short : (n : ℕ) (s : List ℕ) (at : ℕ) → length (readable n p s at) ≡ n → end_of (many n p s at) ≡ None → ⊥
-  unfolding many readable and_more end_of
+  unfolding many readable and_more
   not_short zero s at h q = at-short q
   not_short (suc n) s at h q = go (p s at) (not_short n s) h q
     where

@@ -17,7 +17,6 @@ use Rattle.meaning.specs.ByteLayouts as ByteLayouts
 use Rattle.meaning.specs.ByteLayouts.{value, table, column, mask, columns, pair, expression_of, expression, rule}
 use Rattle.meaning.proofs.Parsing.{inside}
 use Rattle.words.proofs.Laws.{split, byte-within-yes, byte-within-low, byte-within-high}
-use Rattle.words.specs.Words.{read_as}
 use Rattle.book.specs.Books.{rule_or}
 use Rattle.book.specs.declared.Rule.{Rule}
 
@@ -245,5 +244,4 @@ rule-inside n s at =
 -- by an answer of `rule_at`
 pub rule-ends : (n : ℕ) (s : List ℕ) (at : ℕ) {r : Option (Rule × ℕ)} {rule : Rule} {next : ℕ} → rule_or s r ≡ ByteLayouts.rule n s at
     → r ≡ Some (rule, next) → (at ≤ next) × (next ≤ length s)
-unfolding rule_or read_as
 rule-ends n s at e is = inside-ends (rule-inside n s at) (sym e ∙ ap (λ (read : Option (Rule × ℕ)). rule_or s read) is)

@@ -20,8 +20,8 @@ use Rattle.book.specs.Books.{span_to, span_after, rule_span}
 
 -- ---- Masks
 
-pub shifted-out : (m n : ℕ) → eqb (m / 2 ^ n) 0 ≡ ltb m (2 ^ n)
-shifted-out m n =
+pub shifted_out : (m n : ℕ) → eqb (m / 2 ^ n) 0 ≡ ltb m (2 ^ n)
+shifted_out m n =
     split (ltb m (2 ^ n))
     (λ e. eq-eqb (m / 2 ^ n) 0 (div-eq_of_lt (ltb-true m (2 ^ n) e)) ∙ sym e)
     (λ e.
@@ -54,12 +54,12 @@ bytes_in s None = []
 bytes_in s (Some (start, end)) = take (end - start) (drop start s)
 
 to-bytes : {A : Type 0} (s : List ℕ) (start : ℕ) (r : Read A) → bytes_in s (span_to start r) ≡ bytes_read s start r
-unfolding bytes_in span_to bytes_read
+unfolding bytes_in bytes_read
 to-bytes s start bad = refl
 to-bytes s start (got x end) = refl
 
 after-bytes : {A : Type 0} (s : List ℕ) (n : ℕ) (r : Read A) → bytes_in s (span_after s n r) ≡ rule_after s n r
-unfolding bytes_in span_after rule_after
+unfolding bytes_in rule_after
 after-bytes s n bad = refl
 after-bytes s n (got x start) = to-bytes s start (rule n s start)
 

@@ -18,11 +18,11 @@ use Rattle.book.specs.declared.Rule.{Rule}
 use Rattle.book.specs.declared.Frame.{Frame}
 
 -- n expressions from a place on
-unfoldable pub expressions_at : List ℕ → ℕ → ℕ → List Covers.Expression
+abbrev pub expressions_at : List ℕ → ℕ → ℕ → List Covers.Expression
 expressions_at s n at = readable n ByteLayouts.expression s at
 
 -- the action that is meant, its values, expressions and terms read where they stand, in a rule with these triggers
-unfoldable pub action_meant : List ℕ → ℕ → Action → Covers.Action
+abbrev pub action_meant : List ℕ → ℕ → Action → Covers.Action
 action_meant s triggers action.Rollback = Covers.Action.rollback
 action_meant s triggers (action.Insert table values) = Covers.Action.insert_row table (values_at s 4 values)
 action_meant s triggers (action.InsertFromQuery table query expressions) =
@@ -31,19 +31,19 @@ action_meant s triggers (action.Delete table terms) = Covers.Action.delete_rows 
 action_meant s triggers (action.Update table mask expressions terms) =
     Covers.Action.update_rows table mask (expressions_at s (ones mask) expressions) (terms_meant s triggers terms)
 
-unfoldable pub action_or : List ℕ → ℕ → Option (Action × ℕ) → Read Covers.Action
+abbrev pub action_or : List ℕ → ℕ → Option (Action × ℕ) → Read Covers.Action
 action_or s triggers = read_as (action_meant s triggers)
 
-unfoldable pub condition_meant : List ℕ → ℕ → Option Query → Maybe Covers.Query
+abbrev pub condition_meant : List ℕ → ℕ → Option Query → Maybe Covers.Query
 condition_meant s triggers = option_as (query_meant s triggers)
 
-unfoldable pub condition_or : List ℕ → ℕ → Option (Option Query × ℕ) → Read (Maybe Covers.Query)
+abbrev pub condition_or : List ℕ → ℕ → Option (Option Query × ℕ) → Read (Maybe Covers.Query)
 condition_or s triggers = read_as (condition_meant s triggers)
 
 unfoldable pub actions_meant : List ℕ → ℕ → Actions → List Covers.Action
 actions_meant s triggers a = readable a.count (ByteLayouts.action triggers) s a.first
 
-unfoldable pub actions_or : List ℕ → ℕ → Option (Actions × ℕ) → Read (List Covers.Action)
+abbrev pub actions_or : List ℕ → ℕ → Option (Actions × ℕ) → Read (List Covers.Action)
 actions_or s triggers = read_as (actions_meant s triggers)
 
 -- a rule from its head, its condition and its actions
@@ -64,14 +64,14 @@ unfoldable pub head_rule : Head → Covers.Rule
 head_rule h = rule_of h none []
 
 -- the rule whose head was read: condition and actions follow
-unfoldable pub head_then : List ℕ → Option (Head × ℕ) → Read Covers.Rule
+abbrev pub head_then : List ℕ → Option (Head × ℕ) → Read Covers.Rule
 head_then s None = bad
 head_then s (Some (h, after)) =
     on_from (ByteLayouts.condition h.triggers s after) (λ q next.
     on_from (ByteLayouts.actions h.triggers s next) (λ acts end. got (rule_of h q acts) end))
 
 -- where a head ends
-unfoldable pub head_end : Option (Head × ℕ) → ℕ
+abbrev pub head_end : Option (Head × ℕ) → ℕ
 head_end None = 0
 head_end (Some (h, after)) = after
 
@@ -80,14 +80,14 @@ unfoldable pub rule_meant : List ℕ → Rule → Covers.Rule
 rule_meant s r =
     rule_of r.head (condition_meant s r.head.triggers r.condition) (actions_meant s r.head.triggers r.actions)
 
-unfoldable pub rule_or : List ℕ → Option (Rule × ℕ) → Read Covers.Rule
+abbrev pub rule_or : List ℕ → Option (Rule × ℕ) → Read Covers.Rule
 rule_or s = read_as (rule_meant s)
 
 -- the book that is meant: its rules are those that can be read
 unfoldable pub book_meant : List ℕ → Frame → Covers.Book
 book_meant s f = record { limit = f.limit; rules = readable f.count (ByteLayouts.rule f.count) s first_rule }
 
-unfoldable pub book_or : List ℕ → Option Frame → Maybe Covers.Book
+abbrev pub book_or : List ℕ → Option Frame → Maybe Covers.Book
 book_or s = option_as (book_meant s)
 
 -- the slice is a well-formed book, with this step limit and so many rules, which stand one after another up to its end
@@ -102,12 +102,12 @@ Told s None = Unit {0}
 Told s (Some f) = WellFormed s f.limit f.count
 
 -- from a place up to where a value ends that was read there
-unfoldable pub span_to : {A : Type 0} → ℕ → Read A → Option (ℕ × ℕ)
+abbrev pub span_to : {A : Type 0} → ℕ → Read A → Option (ℕ × ℕ)
 span_to start bad = None
 span_to start (got a end) = Some (start, end)
 
 -- the rule after those that were read
-unfoldable pub span_after : {A : Type 0} → List ℕ → ℕ → Read A → Option (ℕ × ℕ)
+abbrev pub span_after : {A : Type 0} → List ℕ → ℕ → Read A → Option (ℕ × ℕ)
 span_after s n bad = None
 span_after s n (got a start) = span_to start (ByteLayouts.rule n s start)
 

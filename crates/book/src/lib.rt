@@ -78,6 +78,7 @@ pub const RULES: usize = 16;
 
 pub const LIMIT: usize = 1000;
 
+#[tactic(auto, using(fields::proofs::Laws::values_in_a_row), unfolding(meaning::specs::ByteLayouts::insert_row, meaning::specs::ByteLayouts::table))]
 fn insert_row(s: &[u8], triggers: usize, at: usize) -> Option<(Action, usize)>
     ensures { action_or s.now triggers result ≡ ByteLayouts.insert_row triggers s.now at }
 {
@@ -86,6 +87,7 @@ fn insert_row(s: &[u8], triggers: usize, at: usize) -> Option<(Action, usize)>
     Some((Action::Insert { table, values }, next))
 }
 
+#[tactic(auto, using(words::proofs::Laws::read_in_a_row), unfolding(meaning::specs::ByteLayouts::insert_from_query, meaning::specs::ByteLayouts::table))]
 fn insert_from_query(s: &[u8], triggers: usize, at: usize) -> Option<(Action, usize)>
     ensures { action_or s.now triggers result ≡ ByteLayouts.insert_from_query triggers s.now at }
 {
@@ -102,6 +104,7 @@ fn insert_from_query(s: &[u8], triggers: usize, at: usize) -> Option<(Action, us
     ))
 }
 
+#[tactic(auto, unfolding(meaning::specs::ByteLayouts::delete_rows, meaning::specs::ByteLayouts::table))]
 fn delete_rows(s: &[u8], triggers: usize, at: usize) -> Option<(Action, usize)>
     ensures { action_or s.now triggers result ≡ ByteLayouts.delete_rows triggers s.now at }
 {
@@ -110,6 +113,7 @@ fn delete_rows(s: &[u8], triggers: usize, at: usize) -> Option<(Action, usize)>
     Some((Action::Delete { table, terms }, next))
 }
 
+#[tactic(auto, unfolding(meaning::specs::ByteLayouts::update_rows, meaning::specs::ByteLayouts::table, meaning::specs::ByteLayouts::mask))]
 fn update_rows(s: &[u8], triggers: usize, at: usize) -> Option<(Action, usize)>
     ensures { action_or s.now triggers result ≡ ByteLayouts.update_rows triggers s.now at }
 {
@@ -130,6 +134,7 @@ fn update_rows(s: &[u8], triggers: usize, at: usize) -> Option<(Action, usize)>
 }
 
 // The action at a place of a rule with these triggers.
+#[tactic(auto, unfolding(meaning::specs::ByteLayouts::action, meaning::specs::ByteLayouts::action_of, meaning::specs::Reading::byte))]
 pub fn action_at(s: &[u8], triggers: usize, at: usize) -> Option<(Action, usize)>
     ensures { action_or s.now triggers result ≡ ByteLayouts.action triggers s.now at }
 {
@@ -161,6 +166,7 @@ impl Layout for RuleActions {
 }
 
 // 0, or 1 and a query.
+#[tactic(auto, unfolding(meaning::specs::ByteLayouts::condition, meaning::specs::ByteLayouts::some_query))]
 fn condition_at(s: &[u8], triggers: usize, at: usize) -> Option<(Option<Query>, usize)>
     ensures { condition_or s.now triggers result ≡ ByteLayouts.condition triggers s.now at }
 {
@@ -173,6 +179,7 @@ fn condition_at(s: &[u8], triggers: usize, at: usize) -> Option<(Option<Query>, 
 }
 
 // A number of actions, 1..4, and its actions.
+#[tactic(auto, using(words::proofs::Laws::read_in_a_row), unfolding(meaning::specs::ByteLayouts::actions, crate::specs::Books::actions_meant))]
 fn actions_at(s: &[u8], triggers: usize, at: usize) -> Option<(Actions, usize)>
     ensures { actions_or s.now triggers result ≡ ByteLayouts.actions triggers s.now at }
 {
@@ -182,6 +189,7 @@ fn actions_at(s: &[u8], triggers: usize, at: usize) -> Option<(Actions, usize)>
 }
 
 // A column mask, as the triggers ask for: 1..15 if bit 2 is set, else 0.
+#[tactic(auto, unfolding(meaning::specs::ByteLayouts::columns, meaning::specs::ByteLayouts::mask))]
 fn columns_at(s: &[u8], triggers: usize, at: usize) -> Option<(usize, usize)>
     ensures { read result ≡ ByteLayouts.columns triggers s.now at }
 {
@@ -193,6 +201,7 @@ fn columns_at(s: &[u8], triggers: usize, at: usize) -> Option<(usize, usize)>
 }
 
 // Whether a mask names only rules of a book of n.
+#[tactic(auto, using(crate::proofs::Laws::shifted_out))]
 fn names_rules(mask: usize, n: usize) -> bool
     requires { n ≤ 16 }
     ensures { result ≡ ltb mask (2 ^ n) }
@@ -201,6 +210,7 @@ fn names_rules(mask: usize, n: usize) -> bool
 }
 
 // What stands before the condition of a rule of a book of n: active, table, triggers, columns, precedes.
+#[tactic(auto, unfolding(meaning::specs::ByteLayouts::rule, meaning::specs::ByteLayouts::table, crate::specs::Books::rule_of))]
 fn head_at(s: &[u8], n: usize, at: usize) -> Option<(Head, usize)>
     requires { n ≤ 16 }
     ensures result_value { head_then s.now result ≡ ByteLayouts.rule n s.now at }
@@ -227,6 +237,7 @@ fn head_at(s: &[u8], n: usize, at: usize) -> Option<(Head, usize)>
 }
 
 // The rule at a place of a book of n rules.
+#[tactic(auto, unfolding(crate::specs::Books::rule_meant))]
 pub fn rule_at(s: &[u8], n: usize, at: usize) -> Option<(Rule, usize)>
     requires { n ≤ 16 }
     ensures { rule_or s.now result ≡ ByteLayouts.rule n s.now at }

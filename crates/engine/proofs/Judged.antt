@@ -19,7 +19,6 @@ use Rattle.meaning.proofs.Parsing.{many-each}
 use Rattle.meaning.proofs.RuleBytes.{rules-read}
 use Rattle.meaning.proofs.RunsFit.{judged-read}
 use Rattle.meaning.proofs.Theorems.{lengths}
-use Rattle.words.specs.Words.{option_as}
 use Rattle.book.specs.Books.{WellFormed, Told, book_or}
 use Rattle.book.specs.declared.Frame.{Frame}
 use Rattle.order.specs.Order.{order_meant}
@@ -32,7 +31,7 @@ use Rattle.engine.specs.declared.Refusal.TheVariants.{Output, Book, Cycle}
 -- a book that its judge refuses
 pub refused-malformed : (s : List ℕ) (r : Option Frame) → book_or s r ≡ read_all ByteLayouts.book s → r ≡ None
     → judge_book s ≡ refused_book book_malformed
-unfolding judge_book book_or option_as
+unfolding judge_book
 refused-malformed s r e is = rw (← e, is)
 
 -- what the judge tells, by its answer
@@ -42,12 +41,12 @@ told s t is = rw is at t
 -- a well-formed book of n rules, with its plan
 module _ (s : List ℕ) (limit n : ℕ) (plan : Plan) (w : WellFormed s limit n) (p : Planned s n plan) where
   pub without-order : plan.order ≡ None → judge_book s ≡ refused_book precedes_cycle
-  unfolding judge_book order_meant option_as
+  unfolding judge_book order_meant
   without-order e = rw (w.book, ← p.ordered, e)
 
   pub with-order : {order : List ℕ} → plan.order ≡ Some order
       → judge_book s ≡ accepted_book (record { limit = limit; rules = rules_in s n }) (take n order)
-  unfolding judge_book order_meant option_as
+  unfolding judge_book order_meant
   with-order e = rw (w.book, ← p.ordered, e)
 
   pub rules-counted : length (rules_in s n) ≡ n

@@ -12,7 +12,6 @@ use lib.Seq.{get_or-take}
 use Rattle.meaning.specs.Processing.TotalOrder.{total_order}
 use Rattle.meaning.proofs.Lists.{has, eqb-self, or_left, or_right}
 use Rattle.meaning.proofs.Orders.{total-order}
-use Rattle.words.specs.Words.{option_as}
 use Rattle.book.specs.Books.{WellFormed}
 use Rattle.order.specs.Order.{order_meant}
 use Rattle.plan.specs.Plans.{rules_in, Planned}
@@ -29,7 +28,7 @@ each_below (x ∷ xs) n only positive (suc i) = each_below xs n (λ k h. only k 
 module _ (s : List ℕ) (limit n : ℕ) (plan : Plan) (w : WellFormed s limit n) (p : Planned s n plan)
     {order : List ℕ} (found : plan.order ≡ Some order) where
   order-found : total_order (rules_in s n) ≡ some (take n order)
-  unfolding order_meant option_as
+  unfolding order_meant
   order-found = rw (← p.ordered, found)
 
   pub numbers-of-rules : Numbers plan

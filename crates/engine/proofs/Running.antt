@@ -15,7 +15,6 @@ use Rattle.meaning.specs.Processing.{Ending}
 use Rattle.meaning.specs.EntryPoints as EntryPoints
 use Rattle.meaning.specs.EntryPoints.{run, result_of, answer_of, written, cleared, working_room, verdict, with_book, refused, accepted}
 use Rattle.meaning.specs.EntryPoints.{judge_book, refused_book, image_malformed, log_malformed}
-use Rattle.words.specs.Words.{option_as}
 use Rattle.image.specs.Images as Images
 use Rattle.image.specs.Images.{image_or}
 use Rattle.image.specs.declared.Head.{Head}
@@ -37,7 +36,7 @@ use Rattle.engine.proofs.Ordered.{numbers-of-rules}
 
 pub image-refused : (image book log : List ℕ) (r : Option Head) → image_or image r ≡ read_all ByteLayouts.image image → r ≡ None
     → verdict image book log ≡ refused image_malformed
-unfolding verdict image_or option_as
+unfolding verdict image_or
 image-refused image book log r e is = rw (← e, is)
 
 -- what the judge tells, by its answer
@@ -62,7 +61,7 @@ module _ (image book log : List ℕ) (next rows : ℕ) (i : Images.WellFormed im
       {order : List ℕ} (found : plan.order ≡ Some order) where
     pub log-refused : (r : Option ℕ) → log_or log r ≡ read_all ByteLayouts.log log → r ≡ None
         → verdict image book log ≡ refused log_malformed
-    unfolding verdict with_book log_or option_as
+    unfolding verdict with_book
     log-refused r e is = rw (i.image, with-order book limit n plan b p found, ← e, is)
 
     pub accepts : (operations : ℕ) → Accepts image book (read_off next rows plan limit operations)
@@ -76,7 +75,7 @@ module _ (image book log : List ℕ) (next rows : ℕ) (i : Images.WellFormed im
     pub log-accepted : (start : Image) → read_all ByteLayouts.image image ≡ some start → (r : Option ℕ) (operations : ℕ)
         → log_or log r ≡ read_all ByteLayouts.log log → r ≡ Some operations
         → verdict image book log ≡ accepted start (ending_from book log (read_off next rows plan limit operations) start)
-    unfolding verdict with_book log_or operations_meant option_as ending_from numbers_in order_in
+    unfolding verdict with_book operations_meant ending_from numbers_in order_in
     log-accepted start s r operations e is = rw (p.count, found, s, with-order book limit n plan b p found, ← e, is)
 
 -- ---- A run

@@ -40,6 +40,9 @@ pub values-taken : (s : List ℕ) (n at next : ℕ) → end_of (many n value s a
 unfolding values_at
 values-taken s n at next h = ends-readable value n s at next h
 
+-- for the attributes of decoders, which name no lemma with a dash
+pub ruleset values_in_a_row = (values-taken)
+
 module _ (s : List ℕ) (b : Bytes s) where
   -- where a value stands, the rest of them are read after it
   values-more : (n at : ℕ) → at + 4 ≤ length s → end_of (many (suc n) value s at) ≡ end_of (many n value s (at + 4))
@@ -55,7 +58,6 @@ module _ (s : List ℕ) (b : Bytes s) where
       values-more n at (omega arith) ∙ values-end-read n (at + 4) (omega arith) ∙ ap Some after
 
   pub values-end-short : (n at : ℕ) → 0 < n → length s < at + n * 4 → end_of (many n value s at) ≡ None
-  unfolding end_of
   values-end-short zero at l h = absurd (omega arith)
   values-end-short (suc zero) at l h = ends-bad value 1 s at (omega arith) (ap end_of (value-short s b at (omega arith)))
   values-end-short (suc (suc n)) at l h =

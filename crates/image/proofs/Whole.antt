@@ -19,7 +19,7 @@ use Rattle.meaning.specs.Base.{Each, no_element, an_element}
 use Rattle.meaning.proofs.Parsing.{spans-as, spans-then, on-from-got, same-value, same_place}
 use Rattle.meaning.proofs.Parsing.{must-got, number16-reads, number32-reads, length-bytes2, length-bytes4, read-all, framed-got}
 use Rattle.meaning.proofs.RoundTrip.{FitRow, rows-read, image_fields}
-use Rattle.words.specs.Words.{Bytes, option_as, readable}
+use Rattle.words.specs.Words.{Bytes, readable}
 use Rattle.words.proofs.Laws.{split, readable-many}
 use Rattle.fields.specs.Fields.{well_framed}
 use Rattle.fields.proofs.Laws.{frame_refused, fields-refused, length-refused, fields-taken}
@@ -119,7 +119,7 @@ module _ (s : List ℕ) (b : Bytes s) where
 
             pub taken : length s ≡ first + count * 21 → rise_in 0 next (many count row s first) ≡ true
                 → (image_or s (Some (record { next = next; count = count })) ≡ read_all ByteLayouts.image s) × WellFormed s next count
-            unfolding ByteLayouts.image image_fields image_or image_meant option_as
+            unfolding ByteLayouts.image image_fields image_or image_meant
             taken n e =
                 let m = made-yes s next (many count row s first) e in
                 let q = rows_end count s first m.2 in

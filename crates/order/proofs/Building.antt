@@ -16,7 +16,6 @@ use lib.ListN.{length, get_or, take, set, replicate, length-set, get_or-replicat
 use lib.Seq.{get_or-set_same, get_or-set_other, get_or-take, take-suc-set}
 use Rattle.meaning.specs.Base.{any, first_with, up_from}
 use Rattle.meaning.specs.Processing.TotalOrder.{numbers, precedes_rule, ready, take_from, order_of}
-use Rattle.words.specs.Words.{option_as}
 use Rattle.order.specs.Order.{ready_meant, MasksOf, passed, all_passed, may_go}
 use Rattle.order.proofs.Numbers.{all_same, first-same, first_below}
 
@@ -148,9 +147,9 @@ module _ {n : ℕ} {masks : List ℕ} {rank : ℕ} {taken : List Bool} {rules : 
 -- what the search answers, by the case of its answer
 module _ {r : Answer ℕ} {o : Option ℕ} (same : ready_meant r ≡ o) where
   pub found_some : {j : ℕ} → r ≡ Some j → o ≡ some j
-  unfolding ready_meant option_as
+  unfolding ready_meant
   found_some was = sym same ∙ ap ready_meant was
 
   pub found_none : r ≡ None → o ≡ none
-  unfolding ready_meant option_as
+  unfolding ready_meant
   found_none was = sym same ∙ ap ready_meant was

@@ -14,7 +14,6 @@ use borrow.Author.Tests.{eqb-true, eqb-false}
 use lib.Dec.{eqb}
 use lib.ListN.{length}
 use Rattle.meaning.specs.Base.{up_from, all, first_with}
-use Rattle.words.specs.Words.{option_as}
 use Rattle.words.proofs.Laws.{split}
 use Rattle.order.specs.Order.{ready_meant}
 
@@ -70,7 +69,7 @@ module _ (p : ℕ → Bool) where
   pub first-answered : (n : ℕ) (r : Option ℕ) → MatchOption r ((k : ℕ) → 0 ≤ k → k < n → p k ≡ false)
       (λ i. (0 ≤ i) × (i < n) × (p i ≡ true) × ((k : ℕ) → 0 ≤ k → k < i → p k ≡ false))
       → ready_meant r ≡ first_with p (up_from 0 n)
-  unfolding ready_meant option_as
+  unfolding ready_meant
   first-answered n None f = sym (none-passes 0 n (λ i l h. f i l (omega arith)))
   first-answered n (Some i) (l, h, e, f) = sym (first-passes 0 n i l (omega arith) e f)
 

@@ -18,7 +18,7 @@ use Rattle.meaning.specs.Reading.{Read, got, many}
 use Rattle.meaning.specs.Covers.{Rule}
 use Rattle.meaning.specs.ByteLayouts as ByteLayouts
 use Rattle.meaning.specs.Processing.TotalOrder.{order_of, total_order}
-use Rattle.words.specs.Words.{read_as, readable}
+use Rattle.words.specs.Words.{readable}
 use Rattle.words.proofs.Laws.{FirstOf, first_of, readable-many, readable-more, readable-none}
 use Rattle.book.specs.declared.Rule.{Rule as RuleStood}
 use Rattle.book.specs.Books.{rule_or, rule_meant, rule_of, head_rule}
@@ -38,7 +38,6 @@ element-behind (y ∷ xs) ys x k e = rw (← e) (element-behind xs ys x (length 
 module _ (s : List ℕ) {read : Read Rule} {r : Option (RuleStood × ℕ)} {rule : RuleStood} {next : ℕ} (e : rule_or s r ≡ read)
     (is : r ≡ Some (rule, next)) where
   pub rule-read : read ≡ got (rule_meant s rule) next
-  unfolding rule_or read_as
   rule-read = rw (← e, is)
 
   pub outlined : {o : Outline} → OutlineOf (head_rule rule.head) next o → Outlined read o

@@ -19,7 +19,6 @@ use Rattle.meaning.specs.Processing.Actions.{Result, went, ends}
 use Rattle.meaning.proofs.Lists.{and-true, first-is, there-below}
 use Rattle.meaning.proofs.StepsFit.{GoodRule, Built, built-moved}
 use Rattle.meaning.proofs.RunsFit.{rule-gives}
-use Rattle.words.specs.Words.{option_as}
 use Rattle.words.proofs.Laws.{readable-each}
 use Rattle.room.specs.Represents.{Represents, made_all, seen}
 use Rattle.room.proofs.Marks.{seen-moved, reached-seen}
@@ -82,7 +81,7 @@ module _ {xs ys book : List ℕ} {plan : Plan} {found : Option ℕ} (t : Looks x
   -- nothing is triggered
   pub quiet-ends : (left count : ℕ) {r : Ended} → found ≡ None → (r.outcome ≡ outcome.Commit) × (r.count ≡ count)
       → EndsFrom xs ys book plan left count r
-  unfolding next_meant option_as
+  unfolding next_meant
   quiet-ends left count q told =
       record {
         ends = λ start s a.
@@ -94,7 +93,7 @@ module _ {xs ys book : List ℕ} {plan : Plan} {found : Option ℕ} (t : Looks x
 
   module _ {k : ℕ} (q : found ≡ Some k) where
     first : {start : Image} {s : State} → Reaches xs book plan start s → first_triggered (rules_of book plan) (order_in plan) s ≡ some k
-    unfolding next_meant option_as
+    unfolding next_meant
     first {start} {s} a = sym (t.first.is s (t.rests start s a).settled) ∙ ap next_meant q
 
     -- a rule is triggered, and no consideration is left

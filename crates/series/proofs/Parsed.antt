@@ -11,7 +11,6 @@ use Rattle.meaning.specs.ByteLayouts as ByteLayouts
 use Rattle.meaning.specs.ByteLayouts.{terms, query, operation, action}
 use Rattle.meaning.proofs.RunsFit.{Gives, bind-gives, past-gives, pure-gives, malformed-gives, if-gives, many-gives, mask-gives}
 use Rattle.meaning.proofs.RunsFit.{values-give, table-gives, expression-gives}
-use Rattle.words.specs.Words.{read_as}
 use Rattle.transaction_log.specs.declared.Operation.{Operation}
 use Rattle.transaction_log.specs.Log.{operation_meant, operation_or}
 use Rattle.book.specs.declared.Action as book
@@ -44,12 +43,10 @@ operation-fits =
 -- what the decoder's answer says of the parser
 pub operation-read : (s : List ℕ) (at : ℕ) {r : Option (Operation × ℕ)} {q : Operation} {next : ℕ} → operation_or s r ≡ operation s at
     → r ≡ Some (q, next) → operation s at ≡ got (operation_meant s q) next
-unfolding operation_or read_as
 operation-read s at e told = rw (← e, told)
 
 pub operation-unread : (s : List ℕ) (at : ℕ) {r : Option (Operation × ℕ)} → operation_or s r ≡ operation s at → r ≡ None
     → operation s at ≡ bad
-unfolding operation_or read_as
 operation-unread s at e told = rw (← e, told)
 
 -- ---- An action of a rule
@@ -86,10 +83,8 @@ module _ (triggers : ℕ) where
 -- what the decoder's answer says of the parser
 pub action-read : (s : List ℕ) (triggers at : ℕ) {r : Option (book.Action × ℕ)} {a : book.Action} {next : ℕ}
     → action_or s triggers r ≡ action triggers s at → r ≡ Some (a, next) → action triggers s at ≡ got (action_meant s triggers a) next
-unfolding action_or read_as
 action-read s triggers at e told = rw (← e, told)
 
 pub action-unread : (s : List ℕ) (triggers at : ℕ) {r : Option (book.Action × ℕ)} → action_or s triggers r ≡ action triggers s at
     → r ≡ None → action triggers s at ≡ bad
-unfolding action_or read_as
 action-unread s triggers at e told = rw (← e, told)

@@ -6,14 +6,14 @@ use mathlib.Core.Bool.{Bool, true, false, ◌||◌}
 use mathlib.Core.List.{List}
 use Prim.Native.Nat.{ℕ, ◌+◌, ◌≤◌, ◌<◌}
 use native.Mathlib.Omega.{arith}
-use borrow.Author.Tests.{ltb-true, ltb-false, eqb-true}
+use borrow.Author.Tests.{eqb-true}
 use lib.Dec.{eqb, ltb}
 use Rattle.meaning.specs.Base.{bit}
-use Rattle.meaning.specs.Reading.{bad, got, Parser, ◌>>=◌, pure, malformed, byte_within, byte}
+use Rattle.meaning.specs.Reading.{bad, got, pure, malformed, byte_within}
 use Rattle.meaning.specs.Covers.{Source}
 use Rattle.meaning.specs.ByteLayouts.{column, source_of}
 use Rattle.words.specs.Words.{Peeked}
-use Rattle.words.proofs.Laws.{split, byte-within-yes, byte-within-low, byte-within-high}
+use Rattle.words.proofs.Laws.{split, byte-within-yes, byte-within-high}
 use Rattle.terms.specs.Terms.{source_meant, source_fits}
 
 -- ---- A byte that was looked at, as it is read
@@ -22,19 +22,8 @@ module _ {s : List ℕ} {at r : ℕ} (l : Peeked s at r) where
   pub looked-within : (lo hi : ℕ) → lo ≤ r → r ≤ hi → byte_within lo hi s at ≡ got r (at + 1)
   looked-within lo hi low high = rw l.is (byte-within-yes lo hi s at (omega arith) (omega arith))
 
-  pub looked-below : (lo hi : ℕ) → r < lo → byte_within lo hi s at ≡ bad
-  looked-below lo hi h = byte-within-low lo hi s at (omega arith)
-
   pub looked-above : (lo hi : ℕ) → hi < r → byte_within lo hi s at ≡ bad
   looked-above lo hi h = byte-within-high lo hi s at (omega arith)
-
-  pub byte-looked : r < 256 → byte s at ≡ got r (at + 1)
-  unfolding byte
-  byte-looked h = looked-within 0 255 (omega arith) (omega arith)
-
-  pub byte-missing : 256 ≤ r → byte s at ≡ bad
-  unfolding byte
-  byte-missing h = looked-above 0 255 (omega arith)
 
   pub column-looked : r ≤ 3 → column s at ≡ got r (at + 1)
   unfolding column
@@ -43,13 +32,6 @@ module _ {s : List ℕ} {at r : ℕ} (l : Peeked s at r) where
   pub column-wrong : 3 < r → column s at ≡ bad
   unfolding column
   column-wrong h = looked-above 0 3 h
-
--- a layout that a byte chooses is bad where that byte chooses none, whether it stands in the slice or not
-pub none-chosen : {A : Type 0} (f : ℕ → Parser A) {s : List ℕ} {at r : ℕ} → Peeked s at r → f r s (at + 1) ≡ bad → (byte >>= f) s at ≡ bad
-none-chosen f {s} {at} {r} l h =
-    split (ltb r 256)
-    (λ e. rw (byte-looked l (ltb-true r 256 e)) h)
-    (λ e. rw (byte-missing l (ltb-false r 256 e)))
 
 -- ---- Row sources
 
@@ -62,10 +44,10 @@ by-last-bit : (t : Bool) (x : Source) (s : List ℕ) (at : ℕ) → (if t then p
 by-last-bit true x s at = refl
 by-last-bit false x s at = refl
 
-pub source-of : (triggers n : ℕ) (s : List ℕ) (at : ℕ)
+pub source_read : (triggers n : ℕ) (s : List ℕ) (at : ℕ)
     → source_of triggers n s at ≡ (if source_fits triggers n then got (source_meant n) at else bad)
 unfolding source_of source_fits source_meant
-source-of triggers n s at =
+source_read triggers n s at =
     split (ltb n 4) (λ e. rw e) (λ e4.
     split (eqb n 4) (λ e. rw (eqb-true n 4 e) (by_bit (bit triggers 0) Source.inserted s at)) (λ n4.
     split (eqb n 5) (λ e. rw (eqb-true n 5 e) (by_bit (bit triggers 1) Source.deleted s at)) (λ n5.

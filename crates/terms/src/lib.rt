@@ -51,6 +51,7 @@ pub enum Expression {
 }
 
 // Whether a rule with these triggers may name a row source: 4 needs bit 0, 5 bit 1, 6 and 7 bit 2.
+#[tactic(auto, unfolding(crate::specs::Terms::source_fits))]
 pub fn source_fits(triggers: usize, n: usize) -> bool
     ensures { result ≡ source_fits triggers n }
 {
@@ -65,6 +66,7 @@ pub fn source_fits(triggers: usize, n: usize) -> bool
 }
 
 // A row source that a rule with these triggers may name.
+#[tactic(auto, using(crate::proofs::Laws::source_read), unfolding(meaning::specs::ByteLayouts::source, meaning::specs::Reading::byte))]
 fn source_at(s: &[u8], triggers: usize, at: usize) -> Option<(usize, usize)>
     ensures { source_or result ≡ ByteLayouts.source triggers s.now at }
 {
@@ -83,6 +85,7 @@ impl Layout for Pairs {
 
     ghost layout = { λ _. ByteLayouts.pair };
 
+    #[tactic(auto, unfolding(meaning::specs::ByteLayouts::pair, meaning::specs::ByteLayouts::column))]
     fn end(&self, s: &[u8], at: usize) -> Option<usize> {
         let (_own, next) = words::byte_within(s, at, 0, 3)?;
         let (_other, end) = words::byte_within(s, next, 0, 3)?;
@@ -90,6 +93,7 @@ impl Layout for Pairs {
     }
 }
 
+#[tactic(auto, unfolding(meaning::specs::ByteLayouts::against_constant, meaning::specs::ByteLayouts::column, meaning::specs::ByteLayouts::value))]
 fn against_constant(s: &[u8], triggers: usize, at: usize, op: usize) -> Option<(Term, usize)>
     ensures { term_or s.now result ≡ ByteLayouts.against_constant triggers op s.now at }
 {
@@ -105,6 +109,7 @@ fn against_constant(s: &[u8], triggers: usize, at: usize, op: usize) -> Option<(
     ))
 }
 
+#[tactic(auto, unfolding(meaning::specs::ByteLayouts::against_column, meaning::specs::ByteLayouts::column))]
 fn against_column(s: &[u8], triggers: usize, at: usize, op: usize) -> Option<(Term, usize)>
     ensures { term_or s.now result ≡ ByteLayouts.against_column triggers op s.now at }
 {
@@ -113,6 +118,7 @@ fn against_column(s: &[u8], triggers: usize, at: usize, op: usize) -> Option<(Te
     Some((Term::Columns { op, column, other }, next))
 }
 
+#[tactic(auto, using(words::proofs::Laws::read_in_a_row), unfolding(meaning::specs::ByteLayouts::matching))]
 fn matching(s: &[u8], triggers: usize, at: usize, negated: bool) -> Option<(Term, usize)>
     ensures { term_or s.now result ≡ ByteLayouts.matching triggers (match_meant negated) s.now at }
 {
@@ -131,6 +137,7 @@ fn matching(s: &[u8], triggers: usize, at: usize, negated: bool) -> Option<(Term
 }
 
 // The term at a place of a rule with these triggers.
+#[tactic(auto, unfolding(meaning::specs::ByteLayouts::term, meaning::specs::ByteLayouts::term_of, meaning::specs::Reading::byte))]
 pub fn term_at(s: &[u8], triggers: usize, at: usize) -> Option<(Term, usize)>
     ensures { term_or s.now result ≡ ByteLayouts.term triggers s.now at }
 {
@@ -161,6 +168,7 @@ impl Layout for RuleTerms {
 }
 
 // A term count, 0..4, and its terms.
+#[tactic(auto, using(words::proofs::Laws::read_in_a_row), unfolding(meaning::specs::ByteLayouts::terms, crate::specs::Terms::terms_meant))]
 pub fn terms_at(s: &[u8], triggers: usize, at: usize) -> Option<(Terms, usize)>
     ensures { terms_or s.now triggers result ≡ ByteLayouts.terms triggers s.now at }
 {
@@ -170,6 +178,7 @@ pub fn terms_at(s: &[u8], triggers: usize, at: usize) -> Option<(Terms, usize)>
 }
 
 // A row source and terms.
+#[tactic(auto, unfolding(meaning::specs::ByteLayouts::query, crate::specs::Terms::query_meant))]
 pub fn query_at(s: &[u8], triggers: usize, at: usize) -> Option<(Query, usize)>
     ensures { query_or s.now triggers result ≡ ByteLayouts.query triggers s.now at }
 {
@@ -178,6 +187,7 @@ pub fn query_at(s: &[u8], triggers: usize, at: usize) -> Option<(Query, usize)>
     Some((Query { source, terms }, next))
 }
 
+#[tactic(auto, unfolding(meaning::specs::ByteLayouts::constant, meaning::specs::ByteLayouts::value))]
 fn constant(s: &[u8], at: usize) -> Option<(Expression, usize)>
     ensures { expression_or result ≡ ByteLayouts.constant s.now at }
 {
@@ -185,6 +195,7 @@ fn constant(s: &[u8], at: usize) -> Option<(Expression, usize)>
     Some((Expression::Constant(constant), next))
 }
 
+#[tactic(auto, unfolding(meaning::specs::ByteLayouts::of_column, meaning::specs::ByteLayouts::column))]
 fn column(s: &[u8], at: usize) -> Option<(Expression, usize)>
     ensures { expression_or result ≡ ByteLayouts.of_column s.now at }
 {
@@ -192,6 +203,7 @@ fn column(s: &[u8], at: usize) -> Option<(Expression, usize)>
     Some((Expression::Column(column), next))
 }
 
+#[tactic(auto, unfolding(meaning::specs::ByteLayouts::sum, meaning::specs::ByteLayouts::column, meaning::specs::ByteLayouts::value))]
 fn sum(s: &[u8], at: usize) -> Option<(Expression, usize)>
     ensures { expression_or result ≡ ByteLayouts.sum s.now at }
 {
@@ -201,6 +213,7 @@ fn sum(s: &[u8], at: usize) -> Option<(Expression, usize)>
 }
 
 // The expression at a place.
+#[tactic(auto, unfolding(meaning::specs::ByteLayouts::expression, meaning::specs::ByteLayouts::expression_of, meaning::specs::Reading::byte))]
 pub fn expression_at(s: &[u8], at: usize) -> Option<(Expression, usize)>
     ensures { expression_or result ≡ ByteLayouts.expression s.now at }
 {

@@ -23,7 +23,6 @@ use Rattle.meaning.specs.Runs.{Accepted, ending_of, is_refused, is_accepted}
 use Rattle.meaning.proofs.WrittenRead.{written_read}
 use Rattle.meaning.proofs.RunsFit.{run_sound, run-end-sound, run-limit}
 use Rattle.meaning.proofs.Theorems.{every-run, is_lawful}
-use Rattle.words.specs.Words.{option_as}
 use Rattle.image.specs.Images.{image_or}
 use Rattle.image.specs.declared.Head.{Head}
 use Rattle.processing.specs.declared.Ended.{Ended}
@@ -117,7 +116,7 @@ module _ {image : List ℕ} {ended : Ended} (telling : Telling image (Ok ended))
   -- its image is not malformed
   pub not-bad : {A : Type 0} {r : Option Head} {end : ℕ} → end ≡ first_part image
       → image_or (take (end - 0) image) r ≡ read_all ByteLayouts.image (take (end - 0) image) → r ≡ None → A
-  unfolding answer_meant answer_of image_or option_as
+  unfolding answer_meant answer_of image_or
   not-bad {A} {r} {end} cut f is = go telling.verdict telling.tells telling.tells.answer
     where
       go : (v : Verdict) → Tells image (Ok ended) v → answer_meant (Ok ended) ≡ answer_of v → A

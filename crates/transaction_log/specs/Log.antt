@@ -11,12 +11,12 @@ use Rattle.transaction_log.specs.declared.Operation.{Operation}
 use Rattle.transaction_log.specs.declared.Operation.TheVariants.{Insert, Delete, Update}
 
 -- the operation that is meant, its values read where they stand
-unfoldable pub operation_meant : List ℕ → Operation → LogOperation
+abbrev pub operation_meant : List ℕ → Operation → LogOperation
 operation_meant s (Insert table values) = insert table (values_at s 4 values)
 operation_meant s (Delete handle) = delete handle
 operation_meant s (Update handle mask values) = update handle mask (values_at s (ones mask) values)
 
-unfoldable pub operation_or : List ℕ → Option (Operation × ℕ) → Read LogOperation
+abbrev pub operation_or : List ℕ → Option (Operation × ℕ) → Read LogOperation
 operation_or s = read_as (operation_meant s)
 
 -- the operations stand after the operation count
@@ -27,5 +27,5 @@ first_operation = 7
 unfoldable pub operations_meant : List ℕ → ℕ → List LogOperation
 operations_meant s count = readable count operation s first_operation
 
-unfoldable pub log_or : List ℕ → Option ℕ → Maybe (List LogOperation)
+abbrev pub log_or : List ℕ → Option ℕ → Maybe (List LogOperation)
 log_or s = option_as (operations_meant s)

@@ -31,6 +31,7 @@ pub const OPERATIONS: usize = 256;
 
 pub const FIRST: usize = 7;
 
+#[tactic(auto, using(fields::proofs::Laws::values_in_a_row), unfolding(meaning::specs::ByteLayouts::insertion, meaning::specs::ByteLayouts::table))]
 fn insertion(s: &[u8], at: usize) -> Option<(Operation, usize)>
     ensures { operation_or s.now result ≡ ByteLayouts.insertion s.now at }
 {
@@ -39,6 +40,7 @@ fn insertion(s: &[u8], at: usize) -> Option<(Operation, usize)>
     Some((Operation::Insert { table, values }, next))
 }
 
+#[tactic(auto, unfolding(meaning::specs::ByteLayouts::deletion))]
 fn deletion(s: &[u8], at: usize) -> Option<(Operation, usize)>
     ensures { operation_or s.now result ≡ ByteLayouts.deletion s.now at }
 {
@@ -46,6 +48,7 @@ fn deletion(s: &[u8], at: usize) -> Option<(Operation, usize)>
     Some((Operation::Delete { handle }, next))
 }
 
+#[tactic(auto, using(fields::proofs::Laws::values_in_a_row), unfolding(meaning::specs::ByteLayouts::change, meaning::specs::ByteLayouts::mask))]
 fn change(s: &[u8], at: usize) -> Option<(Operation, usize)>
     ensures { operation_or s.now result ≡ ByteLayouts.change s.now at }
 {
@@ -63,6 +66,7 @@ fn change(s: &[u8], at: usize) -> Option<(Operation, usize)>
 }
 
 // The operation at a place.
+#[tactic(auto, unfolding(meaning::specs::ByteLayouts::operation, meaning::specs::ByteLayouts::operation_of, meaning::specs::Reading::byte))]
 pub fn operation_at(s: &[u8], at: usize) -> Option<(Operation, usize)>
     ensures { operation_or s.now result ≡ ByteLayouts.operation s.now at }
 {

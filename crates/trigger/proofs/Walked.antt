@@ -11,7 +11,6 @@ use lib.ListN.{length, get_or, take, drop, length-take, drop_of_length-le}
 use lib.Seq.{take-nil, get_or-take}
 use Rattle.meaning.specs.Base.{first_with}
 use Rattle.meaning.specs.Processing.{State, triggered, first_triggered}
-use Rattle.words.specs.Words.{option_as}
 use Rattle.plan.specs.declared.Plan.{Plan}
 use Rattle.plan.specs.Plans.{rules_in}
 use Rattle.room.specs.Represents.{Settled}
@@ -19,7 +18,7 @@ use Rattle.trigger.specs.Triggers.{next_meant, numbers_in, order_in, Numbers, Tr
 
 -- where there is no order, no rule is triggered
 pub walk-unordered : {xs s : List ℕ} {plan : Plan} → plan.order ≡ None → TriggersFirst xs s plan None
-unfolding first_triggered next_meant option_as order_in numbers_in
+unfolding first_triggered next_meant order_in numbers_in
 walk-unordered {plan = plan} none = record { is = λ state rep. rw (none, take-nil plan.count) }
 
 -- a number in the order is that of a rule
@@ -47,7 +46,7 @@ module _ {xs s : List ℕ} {plan : Plan} {order : List ℕ} {i : ℕ} (w : Walke
     first = rw read (drop_more order i 0 more)
 
     pub walk-yes : {r : Bool} → Triggers xs s plan k r → r ≡ true → TriggersFirst xs s plan (Some k)
-    unfolding next_meant option_as
+    unfolding next_meant
     walk-yes t on = record {
       is = λ state rep.
           let here : triggered (rules_in s plan.count) state k ≡ true = sym (t.is state rep) ∙ on in
@@ -62,5 +61,5 @@ module _ {xs s : List ℕ} {plan : Plan} {order : List ℕ} {i : ℕ} (w : Walke
     }
 
   pub walk-done : length order ≤ i → TriggersFirst xs s plan None
-  unfolding next_meant option_as
+  unfolding next_meant
   walk-done h = record { is = λ state rep. sym (w.rest state rep ∙ rw (drop_of_length-le order h)) }

@@ -21,7 +21,7 @@ use Rattle.meaning.specs.ByteLayouts.{value}
 use Rattle.meaning.specs.Values.{signed}
 use Rattle.meaning.proofs.Parsing.{on-from-got, same-value, same_place}
 use Rattle.meaning.proofs.RunsFit.{Gives}
-use Rattle.words.specs.Words.{Bytes, word16_at, word32_at, low32_at, low_bytes4, read_as, read, end_of, and_more, readable}
+use Rattle.words.specs.Words.{Bytes, word16_at, word32_at, low32_at, low_bytes4, read, end_of, and_more, readable}
 
 -- a test is true or false, and which is known
 pub split : {P : Type 0} (t : Bool) → (t ≡ true → P) → (t ≡ false → P) → P
@@ -170,23 +170,19 @@ first_of p (suc n) s at h e =
 
 module _ {A : Type 0} {r : Option (A × ℕ)} {p : Read A} (same : read r ≡ p) where
   pub reads-bad : r ≡ None → p ≡ bad
-  unfolding read_as
   reads-bad was = sym same ∙ ap read was
 
   pub reads-got : {x : A} {next : ℕ} → r ≡ Some (x, next) → p ≡ got x next
-  unfolding read_as
   reads-got was = sym same ∙ ap read was
 
 -- ---- Where a structure ends
 
 module _ {A : Type 0} where
   pub ends-got : (x : A) (next : ℕ) → end_of (got x next) ≡ Some next
-  unfolding end_of
   ends-got x next = refl
 
   -- what ends nowhere is bad
   pub short-bad : (r : Read A) → end_of r ≡ None → r ≡ bad
-  unfolding end_of
   short-bad bad h = refl
   short-bad (got x next) h = cc
 
@@ -194,23 +190,19 @@ module _ {A B : Type 0} where
   -- a second structure after the first: where both end depends on where the first ends alone
   pub ends_on : (r : Read A) (f : A → ℕ → Read B) (g : ℕ → Option ℕ) (next : ℕ)
       → ((x : A) (e : ℕ) → end_of (f x e) ≡ g e) → end_of r ≡ Some next → end_of (on_from r f) ≡ g next
-  unfolding end_of
   ends_on bad f g next same h = cc
   ends_on (got x e) f g next same h = same x e ∙ ap g (cc)
 
   -- a value made of what was read ends where that ends
   pub ends-made : (r : Read A) (f : A → B) → end_of (on_from r (λ x e. got (f x) e)) ≡ end_of r
-  unfolding end_of
   ends-made bad f = refl
   ends-made (got x e) f = refl
 
 module _ {A : Type 0} (p : Parser A) where
   pub ends-none : (n : ℕ) (s : List ℕ) (at : ℕ) → n ≤ 0 → end_of (many n p s at) ≡ Some at
-  unfolding end_of
   ends-none n s at h = rw (many-none p n s at h)
 
   pub ends-bad : (n : ℕ) (s : List ℕ) (at : ℕ) → 0 < n → end_of (p s at) ≡ None → end_of (many n p s at) ≡ None
-  unfolding end_of
   ends-bad n s at h e = rw (many-bad p n s at h (short-bad (p s at) e))
 
   pub ends_more : (n : ℕ) (s : List ℕ) (at next : ℕ) → 0 < n → end_of (p s at) ≡ Some next
@@ -239,7 +231,6 @@ module _ {A : Type 0} (p : Parser A) where
   readable-many (suc n) s at xs e h = read-readable (p s at) (many n p s) (readable n p s) xs e (readable-many n s) h
 
   end-got : (r : Read (List A)) (xs : List A) (e : ℕ) → ((ys : List A) (k : ℕ) → r ≡ got ys k → xs ≡ ys) → end_of r ≡ Some e → r ≡ got xs e
-  unfolding end_of
   end-got bad xs e f h = absurd (let z : ◌≡◌ {A = ℕ} 0 1 = cc in omega arith)
   end-got (got ys k) xs e f h = let same : k ≡ e = cc in rw (f ys k refl, same)
 
@@ -262,6 +253,9 @@ module _ {A : Type 0} (p : Parser A) where
   unfolding readable and_more
   readable-more zero s at x next h e = absurd (omega arith)
   readable-more (suc n) s at x next h e = simp unary_clauses (rw e)
+
+-- for the attributes of decoders, which name no lemma with a dash
+pub ruleset read_in_a_row = (ends-readable)
 
 -- each that can be read is what the parser gives
 pub readable-each : {A : Type 0} {P : A → Type 0} {p : Parser A} → Gives p P → (n : ℕ) (s : List ℕ) (at : ℕ) → Each P (readable n p s at)

@@ -31,12 +31,12 @@ pub record Peeked (s : List ℕ) (at r : ℕ) : Type 0 where
   pub small : r < 257
 
 -- an `Option` of the code as one of the specification, by what its value means
-unfoldable pub option_as : {A B : Type 0} → (A → B) → Option A → Maybe B
+abbrev pub option_as : {A B : Type 0} → (A → B) → Option A → Maybe B
 option_as f None = none
 option_as f (Some x) = some (f x)
 
 -- what was read, and the place after it, by what the value means
-unfoldable pub read_as : {A B : Type 0} → (A → B) → Option (A × ℕ) → Read B
+abbrev pub read_as : {A B : Type 0} → (A → B) → Option (A × ℕ) → Read B
 read_as f None = bad
 read_as f (Some (x, next)) = got (f x) next
 
@@ -49,7 +49,7 @@ pub record Within (low high : ℕ) (read : ℕ × ℕ) : Type 0 where
   pub high_bound : read.0 ≤ high
 
 -- where what was read ends
-unfoldable pub end_of : {A : Type 0} → Read A → Option ℕ
+abbrev pub end_of : {A : Type 0} → Read A → Option ℕ
 end_of bad = None
 end_of (got a next) = Some next
 

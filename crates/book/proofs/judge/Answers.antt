@@ -10,22 +10,22 @@ use Rattle.meaning.specs.ByteLayouts.{rule, book}
 use Rattle.meaning.specs.Covers.{Book}
 use Rattle.meaning.specs.Reading.{got, byte_within, number16, many}
 use Rattle.meaning.proofs.Parsing.{true-within}
-use Rattle.words.specs.Words.{Bytes, option_as, read_as, readable}
+use Rattle.words.specs.Words.{Bytes, readable}
 use Rattle.words.proofs.Laws.{short-bad, ends-readable}
 use Rattle.fields.proofs.Laws.{frame_refused, fields-refused, length-refused, fields-taken}
-use Rattle.book.specs.Books.{book_or, book_meant}
+use Rattle.book.specs.Books.{book_meant}
 use Rattle.book.proofs.Laws.{below, above, number16-after, byte-after}
 use Rattle.book.proofs.judge.Goals as goal
 
 pub returns-then-not-well_framed-clause-result_value : goal.returns-then-not-well_framed-clause-result_value
-unfolding book_or option_as book
+unfolding book
 returns-then-not-well_framed-clause-result_value c =
     let bytes : Bytes c.args.s.now = λ i. (c.type_inv.s i).fits in
     let unframed = sym c.well_framed.ensures ∙ c.if-not-well_framed.true in
     sym (frame_refused _ c.args.s.now bytes unframed)
 
 pub returns-in_err-limit-clause-result_value : goal.returns-in_err-limit-clause-result_value
-unfolding book_or option_as book read_as
+unfolding book
 returns-in_err-limit-clause-result_value c =
     let bytes : Bytes c.args.s.now = λ i. (c.type_inv.s i).fits in
     let framed = sym c.well_framed.ensures ∙ c.if-not-well_framed.false in
@@ -33,7 +33,7 @@ returns-in_err-limit-clause-result_value c =
     (sym (fields-refused _ c.args.s.now bytes framed (rw (← c.number16.ensures, c.in_err-limit.was))))
 
 pub returns-then-limit-lt1-clause-result_value : goal.returns-then-limit-lt1-clause-result_value
-unfolding book_or option_as book read_as
+unfolding book
 returns-then-limit-lt1-clause-result_value c =
     let bytes : Bytes c.args.s.now = λ i. (c.type_inv.s i).fits in
     let framed = sym c.well_framed.ensures ∙ c.if-not-well_framed.false in
@@ -43,7 +43,7 @@ returns-then-limit-lt1-clause-result_value c =
     in sym (fields-refused _ c.args.s.now bytes framed (rw (← c.number16.ensures, c.in_ok-limit.was, wrong)))
 
 pub returns-in_err-count-clause-result_value : goal.returns-in_err-count-clause-result_value
-unfolding book_or option_as book read_as
+unfolding book
 returns-in_err-count-clause-result_value c =
     let bytes : Bytes c.args.s.now = λ i. (c.type_inv.s i).fits in
     let framed = sym c.well_framed.ensures ∙ c.if-not-well_framed.false in
@@ -54,7 +54,7 @@ returns-in_err-count-clause-result_value c =
     (rw (← c.number16.ensures, c.in_ok-limit.was, right, ← c.byte_within.ensures.reads, c.in_err-count.was))))
 
 pub returns-in_err-end-clause-result_value : goal.returns-in_err-end-clause-result_value
-unfolding book_or option_as book read_as
+unfolding book
 returns-in_err-end-clause-result_value c =
     let bytes : Bytes c.args.s.now = λ i. (c.type_inv.s i).fits in
     let framed = sym c.well_framed.ensures ∙ c.if-not-well_framed.false in
@@ -67,7 +67,7 @@ returns-in_err-end-clause-result_value c =
     (rw (← c.number16.ensures, c.in_ok-limit.was, right, ← c.byte_within.ensures.reads, c.in_ok-count.was, short))))
 
 pub returns-then-end-s-clause-result_value : goal.returns-then-end-s-clause-result_value
-unfolding book_or option_as book read_as
+unfolding book
 returns-then-end-s-clause-result_value c =
     let bytes : Bytes c.args.s.now = λ i. (c.type_inv.s i).fits in
     let framed = sym c.well_framed.ensures ∙ c.if-not-well_framed.false in
@@ -81,7 +81,7 @@ returns-then-end-s-clause-result_value c =
     (λ all. omega arith))
 
 pub returns : goal.returns
-unfolding book_or book_meant option_as book read_as
+unfolding book_meant book
 returns c =
     let bytes : Bytes c.args.s.now = λ i. (c.type_inv.s i).fits in
     let framed = sym c.well_framed.ensures ∙ c.if-not-well_framed.false in

@@ -3,7 +3,7 @@
 use borrow.Author.Rules.{rules}
 use mathlib.Core.Path.{sym, ◌∙◌}
 use native.Mathlib.Omega.{arith}
-use Rattle.words.specs.Words.{Bytes, option_as}
+use Rattle.words.specs.Words.{Bytes}
 use Rattle.words.proofs.Laws.{reads-got, reads-bad}
 use Rattle.image.specs.Images.{image_or}
 use Rattle.image.proofs.Whole.{refused-frame, refused-short, refused-next, refused-uncounted, refused-count, refused-size, refused-rows}
@@ -11,13 +11,13 @@ use Rattle.image.proofs.Whole.{head_ends, taken}
 use Rattle.image.proofs.judge.Goals as goal
 
 pub returns-then-not-well_framed-clause-result_value : goal.returns-then-not-well_framed-clause-result_value
-unfolding image_or option_as
+unfolding image_or
 returns-then-not-well_framed-clause-result_value c =
     let bytes : Bytes c.args.s.now = λ i. (c.type_inv.s i).fits in
     sym (refused-frame c.args.s.now bytes (sym c.well_framed.ensures ∙ c.if-not-well_framed.true))
 
 pub returns-in_err-next-clause-result_value : goal.returns-in_err-next-clause-result_value
-unfolding image_or option_as
+unfolding image_or
 returns-in_err-next-clause-result_value c =
     let bytes : Bytes c.args.s.now = λ i. (c.type_inv.s i).fits in
     let framed = sym c.well_framed.ensures ∙ c.if-not-well_framed.false in
@@ -25,7 +25,7 @@ returns-in_err-next-clause-result_value c =
     rw c.from_residual.ensures (sym (refused-short c.args.s.now bytes framed short))
 
 pub returns-then-next-lt1-clause-result_value : goal.returns-then-next-lt1-clause-result_value
-unfolding image_or option_as
+unfolding image_or
 returns-then-next-lt1-clause-result_value c =
     let bytes : Bytes c.args.s.now = λ i. (c.type_inv.s i).fits in
     let framed = sym c.well_framed.ensures ∙ c.if-not-well_framed.false in
@@ -33,7 +33,7 @@ returns-then-next-lt1-clause-result_value c =
     sym (refused-next c.args.s.now bytes framed next c.if-next-lt1.true)
 
 pub returns-in_err-count-clause-result_value : goal.returns-in_err-count-clause-result_value
-unfolding image_or option_as
+unfolding image_or
 returns-in_err-count-clause-result_value c =
     let bytes : Bytes c.args.s.now = λ i. (c.type_inv.s i).fits in
     let framed = sym c.well_framed.ensures ∙ c.if-not-well_framed.false in
@@ -42,7 +42,7 @@ returns-in_err-count-clause-result_value c =
     rw c.from_residual-in_err-count.ensures (sym (refused-uncounted c.args.s.now bytes framed next c.if-next-lt1.false short))
 
 pub returns-then-count-gt-ROWS-clause-result_value : goal.returns-then-count-gt-ROWS-clause-result_value
-unfolding image_or option_as
+unfolding image_or
 returns-then-count-gt-ROWS-clause-result_value c =
     let bytes : Bytes c.args.s.now = λ i. (c.type_inv.s i).fits in
     let framed = sym c.well_framed.ensures ∙ c.if-not-well_framed.false in
@@ -60,7 +60,7 @@ overflow_add-first c =
     search rules
 
 pub returns-then-s-first-clause-result_value : goal.returns-then-s-first-clause-result_value
-unfolding image_or option_as
+unfolding image_or
 returns-then-s-first-clause-result_value c =
     let bytes : Bytes c.args.s.now = λ i. (c.type_inv.s i).fits in
     let framed = sym c.well_framed.ensures ∙ c.if-not-well_framed.false in
@@ -70,7 +70,7 @@ returns-then-s-first-clause-result_value c =
     sym (refused (λ size. omega (arith, c.if-s-first.true)))
 
 pub returns-then-not-rows_rise-clause-result_value : goal.returns-then-not-rows_rise-clause-result_value
-unfolding image_or option_as
+unfolding image_or
 returns-then-not-rows_rise-clause-result_value c =
     let bytes : Bytes c.args.s.now = λ i. (c.type_inv.s i).fits in
     let framed = sym c.well_framed.ensures ∙ c.if-not-well_framed.false in

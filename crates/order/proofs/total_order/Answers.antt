@@ -5,7 +5,6 @@ use native.Mathlib.Omega.{arith}
 use borrow.Author.Rules.{rules}
 use lib.ListN.{length, take}
 use lib.Seq.{length-take-le}
-use Rattle.words.specs.Words.{option_as}
 use Rattle.order.specs.Order.{order_meant}
 use Rattle.order.proofs.Building.{nothing-taken, next-below, one-taken, none-ready, all-taken}
 use Rattle.order.proofs.Building.{masks-of-front, found_some, found_none}
@@ -15,7 +14,7 @@ pub loop-rank-init : goal.loop-rank-init
 loop-rank-init c = nothing-taken _ _ c.requires
 
 pub returns-in_err-j : goal.returns-in_err-j
-unfolding order_meant option_as
+unfolding order_meant
 returns-in_err-j c =
     let long : length c.args.precedes ≡ 16 = search rules in
     let none =
@@ -39,7 +38,7 @@ loop-rank-preserved c =
     one-taken c.loop-rank.invariant _ (omega arith) (found_some c.next_ready.ensures c.in_ok-j.was)
 
 pub returns : goal.returns
-unfolding order_meant option_as
+unfolding order_meant
 returns c =
     let long : length c.args.precedes ≡ 16 = search rules in
     sym

@@ -1,6 +1,5 @@
 -- `plan::outline_at` meets its contract: what the decoder read is the rule, whose head is that rule's and fits.
-use Rattle.words.specs.Words.{read_as}
-use Rattle.book.specs.Books.{rule_or, rule_meant, rule_of}
+use Rattle.book.specs.Books.{rule_meant, rule_of}
 use Rattle.plan.proofs.Fits.{rule_fits}
 use Rattle.plan.proofs.Planning.{rule-read, outlined}
 use Rattle.plan.proofs.outline_at.Goals as goal
@@ -15,5 +14,4 @@ pub returns-in-Some : goal.returns-in-Some
 returns-in-Some c = outlined c.args.s.now c.rule_at.ensures c.in-Some.is c.outline_of.ensures
 
 pub returns-in-None : goal.returns-in-None
-unfolding rule_or read_as
 returns-in-None c = rw (← c.rule_at.ensures, c.in-None.is) tt

@@ -5,7 +5,6 @@ use Prim.Native.Nat.{◌+◌, ◌-◌}
 use native.Mathlib.Omega.{arith}
 use Rattle.meaning.specs.ByteLayouts.{term}
 use Rattle.meaning.specs.Processing.Queries.{all_hold}
-use Rattle.words.specs.Words.{read_as}
 use Rattle.words.proofs.Laws.{readable-none, readable-bad, readable-more}
 use Rattle.terms.specs.Terms.{term_or, terms_meant}
 use Rattle.query.specs.Picks.{term_holds}
@@ -23,7 +22,6 @@ loop-init c =
     rw whole (asking-start _ _ c.shown_rows-rows.ensures.within)
 
 pub term_rows-rows-requires : goal.term_rows-rows-requires
-unfolding term_or read_as
 term_rows-rows-requires c =
     let is = sym c.term_at.ensures ∙ ap (term_or c.args.book.now) c.in-Some.is in
     let few = (term_few c.args.triggers).fit is in
@@ -35,7 +33,7 @@ term_rows-rows-requires c =
     }
 
 pub returns-in_default : goal.returns-in_default
-unfolding all_hold terms_meant term_holds term_or read_as
+unfolding all_hold terms_meant term_holds
 returns-in_default c =
     asking-done c.loop.invariant _
     (readable-bad (term c.args.triggers) _ c.args.book.now c.loop.here
@@ -43,7 +41,6 @@ returns-in_default c =
     c.shown_rows-rows.ensures
 
 pub loop-preserved : goal.loop-preserved
-unfolding term_or read_as
 loop-preserved c =
     let n = c.args.q.terms.count in
     let k = c.loop.counter in

@@ -3,19 +3,17 @@ use borrow.Author.Tests.{leb-true, leb-false}
 use lib.ListN.{length}
 use mathlib.Core.Path.{sym, ◌∙◌}
 use Prim.Native.Nat.{◌+◌}
-use Rattle.words.specs.Words.{Bytes, read_as}
+use Rattle.words.specs.Words.{Bytes}
 use Rattle.words.proofs.Laws.{number32-read, number32-short}
 use Rattle.words.proofs.number32.Goals as goal
 
 pub returns-then-not-has : goal.returns-then-not-has
-unfolding read_as
 returns-then-not-has c =
     let bytes : Bytes c.args.s.now = λ i. (c.type_inv.s i).fits in
     let short = leb-false (c.args.at + 4) (length c.args.s.now) (sym c.has.ensures ∙ c.if-not-has.true) in
     sym (number32-short c.args.s.now bytes c.args.at short)
 
 pub returns : goal.returns
-unfolding read_as
 returns c =
     let bytes : Bytes c.args.s.now = λ i. (c.type_inv.s i).fits in
     let stands = leb-true (c.args.at + 4) (length c.args.s.now) (sym c.has.ensures ∙ c.if-not-has.false) in

@@ -5,19 +5,18 @@ use lib.IntN.{◌+ℤ◌}
 use mir.Syntax.{w32}
 use mir.Val.{SFits}
 use Rattle.meaning.specs.Values.{signed, plus as values_plus}
-use Rattle.words.specs.Words.{option_as}
 use Rattle.words.proofs.Signs.{cast_operand, word-stands, in-range, out-of-range}
 use Rattle.words.proofs.plus.Goals as goal
 
 pub returns-in_err-sum : goal.returns-in_err-sum
-unfolding option_as values_plus
+unfolding values_plus
 returns-in_err-sum c =
     let x = cast_operand c.cast_signed.ensures c.ranges.a.fits in
     let y = cast_operand c.cast_signed-2.ensures c.ranges.b.fits in
     rw c.from_residual.ensures (sym (out-of-range (λ fits. c.in_err-sum.ensures (rw (x, y) fits))))
 
 pub returns : goal.returns
-unfolding option_as values_plus
+unfolding values_plus
 returns c =
     let x = cast_operand c.cast_signed.ensures c.ranges.a.fits in
     let y = cast_operand c.cast_signed-2.ensures c.ranges.b.fits in

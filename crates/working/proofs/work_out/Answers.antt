@@ -2,17 +2,16 @@
 use mathlib.Core.Option.{some}
 use mathlib.Core.Path.{ap}
 use Rattle.meaning.specs.Processing.Queries.{work_out}
-use Rattle.words.specs.Words.{option_as}
 use Rattle.terms.specs.Terms.{expression_meant}
 use Rattle.room.proofs.Cells.{value_cell}
 use Rattle.working.proofs.work_out.Goals as goal
 
 pub returns-in-Constant : goal.returns-in-Constant
-unfolding work_out option_as expression_meant
+unfolding work_out expression_meant
 returns-in-Constant c = rw c.in-Constant.is
 
 pub returns-in-Column : goal.returns-in-Column
-unfolding work_out option_as expression_meant
+unfolding work_out expression_meant
 returns-in-Column c = rw (c.in-Column.is, c.value_at.ensures) (ap some (value_cell _ _))
 
 pub returns-in-Sum : goal.returns-in-Sum

@@ -3,7 +3,6 @@
 use Rattle.std.specs.Prelude.{Some, None, Err}
 use mathlib.Core.Path.{◌≡◌, sym, ap, ◌∙◌}
 use native.Mathlib.Omega.{arith}
-use Rattle.words.specs.Words.{option_as, read_as}
 use Rattle.terms.specs.Terms.{expression_or}
 use Rattle.rows.specs.declared.Reason.TheVariants.{SumOutOfRange}
 use Rattle.working.proofs.OneRow.{storing-start, storing-done, storing-bad, storing-unset, storing-out, storing-set}
@@ -27,7 +26,6 @@ put_value-requires c =
     (omega arith, (c.loop-c.invariant.changed.works.stands, (changed-within c.loop-c.invariant.changed, omega arith)))
 
 pub returns-in_err-v : goal.returns-in_err-v
-unfolding option_as read_as expression_or
 returns-in_err-v c =
     let none : c.work_out.result ≡ None = grind arith in
     let stopped : c.from_residual.result ≡ Err SumOutOfRange = grind arith in
@@ -38,13 +36,11 @@ returns-in_err-v c =
     (rw none at c.work_out.ensures))
 
 pub returns-in_default : goal.returns-in_default
-unfolding read_as expression_or
 returns-in_default c =
     storing-bad c.args.book.now c.args.mask c.loop-c.invariant
     (sym c.expression_at.ensures ∙ ap expression_or c.in_default.is)
 
 pub loop-c-preserved : goal.loop-c-preserved
-unfolding option_as read_as expression_or
 loop-c-preserved c =
     let test = sym c.has_bit.ensures in
     elim c.if-has_bit.branch [
