@@ -17,7 +17,8 @@ ghost use Rattle.effects.specs.Settling.{Settles, Loom, Passed, Weavable, Wove, 
 use room::{EffectTable, Watch};
 use slots::Slot;
 
-// The kinds of an effect.
+// The kinds of an effect: bytes of the room, whose tables hold them, and what the constant table of joins is indexed by. So they are
+// no enum: each look at a slot would have to turn a byte into one, and back where it is stored.
 pub const NOTHING: u8 = 0;
 
 pub const INSERTED: u8 = 1;

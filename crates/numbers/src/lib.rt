@@ -1,4 +1,5 @@
-// Document 01's numbers of refusals, outcomes and reasons, each once.
+// Document 01's numbers of refusals, outcomes and reasons, each once. An `impl From` would have to stand with each type, in three crates;
+// here they are read on one page.
 #![tactic(auto)]
 
 ghost use Rattle.std.specs.Prelude.{◌≡◌};

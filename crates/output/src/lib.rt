@@ -10,7 +10,7 @@ ghost use Rattle.output.specs.Outputs.{LiveRow, PutsImage};
 
 use image::Row;
 
-// The live row i, as a row of an image.
+// The live row i, as a row of an image. Both types are of crates below, so this is no `impl From`.
 fn live_row(room: &[u8], i: usize) -> Row
     requires stands { Stands LIVE ROWS room.now }
     requires i_bound { i < low32_at room.now LIVE }

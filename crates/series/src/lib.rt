@@ -1,4 +1,5 @@
-// The operations of the log, and the actions of a rule, run in order; the first that ends the run ends them.
+// The operations of the log, and the actions of a rule, run in order; the first that ends the run ends them. The two walks differ in what is
+// read and in what is run, so that one function for both would take two closures and save nothing.
 #![tactic(auto)]
 
 ghost use Rattle.meaning.specs.ByteLayouts.{operation};

@@ -37,6 +37,7 @@ pub struct Terms {
     pub first: usize,
 }
 
+// A row source, by its number, and terms. Whoever evaluates a query takes every number (above 6 it is old-updated), so it is no enum.
 #[derive(Clone, Copy)]
 pub struct Query {
     pub source: usize,

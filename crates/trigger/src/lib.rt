@@ -10,7 +10,7 @@ use book::Head;
 use plan::Plan;
 use room::Watch;
 
-// What a rule looks out for.
+// What a rule looks out for. Both types are of crates below, so this is no `impl From`.
 pub fn watch(head: Head) -> Watch
     ensures { (result.table ≡ head.table) × (result.triggers ≡ head.triggers) × (result.columns ≡ head.columns) }
 {

@@ -19,7 +19,7 @@ pub fn wide(x: u8) -> usize
     x as usize
 }
 
-// The byte at a place, and 256 past the end.
+// The byte at a place, and 256 past the end, which no field admits: a look cannot fail, so it answers no `Option`.
 pub fn byte(s: &[u8], at: usize) -> usize
     ensures { Peeked s.now at result }
 {
@@ -161,7 +161,7 @@ pub fn agree(a: u32, b: u32) -> bool
     a == b
 }
 
-// The comparison with a number 0..5; above 5 it is the last, as in the specification.
+// The comparison with a number 0..5; above 5 it is the last, as in the specification. It takes every number, so `op` is no enum.
 pub fn compare(op: usize, a: u32, b: u32) -> bool
     ensures { result ≡ values_compare (comparison op) (signed a) (signed b) }
 {
