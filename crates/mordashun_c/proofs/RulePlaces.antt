@@ -47,12 +47,12 @@ span_word s (Some (start, end)) = place_word start (take (end - start) (drop sta
 
 module _ (s : List ℕ) (n : ℕ) where
   read-word : (from : ℕ) (r : Read Rule) → place_word (start_read from r) (bytes_read s from r) ≡ span_word s (span_to from r)
-  unfolding start_read bytes_read span_to span_word
+  unfolding start_read bytes_read span_word
   read-word from bad = refl
   read-word from (got x next) = refl
 
   after-word : (r : Read (List Rule)) → place_word (start_after s n r) (rule_after s n r) ≡ span_word s (span_after s n r)
-  unfolding start_after rule_after span_after span_word
+  unfolding start_after rule_after span_word
   after-word bad = refl
   after-word (got xs from) = read-word from (rule n s from)
 

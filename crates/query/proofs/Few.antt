@@ -36,6 +36,6 @@ module _ (triggers : ℕ) where
       (if-gives (eqb n 13) (matching-few no_match (λ s ps low high. (low, high))) malformed-gives))))
 
 pub match-few : (negated : Bool) (s : Source) (ps : List Pair) → FewPairs (match_meant negated s ps) → (1 ≤ length ps) × (length ps ≤ 4)
-unfolding FewPairs match_meant
+unfolding FewPairs
 match-few true s ps few = few
 match-few false s ps few = few

@@ -110,7 +110,7 @@ rows-from xs source =
 -- a match of a row that stands as a slot is the term's
 pub match-holds : (xs : List ℕ) (ps : List Pair) (source : ℕ) (negated : Bool)
     → match_holds xs ps source negated ≡ term_holds xs (match_meant negated (source_meant source) ps)
-unfolding match_holds term_holds holds match_meant rows_from
+unfolding match_holds term_holds holds rows_from
 match-holds xs ps source true = refl
 match-holds xs ps source false = refl
 

@@ -3,7 +3,6 @@
 use borrow.Author.Rules.{rules}
 use Rattle.std.proofs.lemmas.Result.{err_from_is_err_and}
 use lib.Count.{ones}
-use Rattle.book.specs.Books.{expressions_at}
 use Rattle.action.proofs.Aside.{aside-chosen, running-aside}
 use Rattle.action.proofs.Prepared.{prepared, query-fails, query-inserts}
 use Rattle.action.proofs.insert_from_query.Goals as goal
@@ -12,7 +11,7 @@ pub work_out_all-requires-clause-laid : goal.work_out_all-requires-clause-laid
 work_out_all-requires-clause-laid c = (aside-chosen c.requires.running.represents.laid c.choose.ensures).laid
 
 pub returns-in_err-work_out_all : goal.returns-in_err-work_out_all
-unfolding expressions_at ones
+unfolding ones
 returns-in_err-work_out_all c =
     let is = err_from_is_err_and c.from_residual.result c.from_residual.ensures.1 in
     rw (is.1, is.2)
@@ -26,7 +25,7 @@ insert_all-requires-clause-running c =
     (search rules) c.requires.running
 
 pub returns : goal.returns
-unfolding expressions_at ones
+unfolding ones
 returns c =
     query-inserts c.args.table c.requires.running.represents.laid c.requires.expressions_len
     (prepared c.requires.running.represents.laid c.choose.ensures

@@ -1,11 +1,9 @@
 -- `action::operate` meets its contract: each operation of the log is done by the function for it.
-use Rattle.transaction_log.specs.Log.{operation_meant}
 use Rattle.meaning.specs.Processing.Actions as Actions
 use Rattle.action.proofs.Fitting.{insert-fits, update-fits}
 use Rattle.action.proofs.operate.Goals as goal
 
 pub insert_values-requires : goal.insert_values-requires
-unfolding operation_meant
 insert_values-requires c =
     let fit = insert-fits (rw c.in-Insert.is at c.requires.fit_operation) in
     record {
@@ -15,7 +13,6 @@ insert_values-requires c =
     }
 
 pub update_one-requires : goal.update_one-requires
-unfolding operation_meant
 update_one-requires c =
     let fit = update-fits (rw c.in-Update.is at c.requires.fit_operation) in
     record {
@@ -25,16 +22,14 @@ update_one-requires c =
     }
 
 pub returns-in-Insert : goal.returns-in-Insert
-unfolding operation_meant Actions.operate
+unfolding Actions.operate
 returns-in-Insert c =
     rw c.in-Insert.is c.insert_values.ensures
 
 pub returns-in-Delete : goal.returns-in-Delete
-unfolding operation_meant
 returns-in-Delete c =
     rw c.in-Delete.is c.delete_one.ensures
 
 pub returns-in-Update : goal.returns-in-Update
-unfolding operation_meant
 returns-in-Update c =
     rw c.in-Update.is c.update_one.ensures

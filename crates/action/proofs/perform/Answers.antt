@@ -1,11 +1,9 @@
 -- `action::perform` meets its contract: each action of a rule is done by the function for it; a rollback changes nothing.
-use Rattle.book.specs.Books.{action_meant}
 use Rattle.meaning.specs.Processing.Actions as Actions
 use Rattle.action.proofs.Fitting.{insert_row-fits, insert_from_query-fits, delete_rows-fits, update_rows-fits, rolled-back}
 use Rattle.action.proofs.perform.Goals as goal
 
 pub insert_values-requires : goal.insert_values-requires
-unfolding action_meant
 insert_values-requires c =
     let fit = insert_row-fits (rw c.in-Insert.is at c.requires.fit_action) in
     record {
@@ -15,7 +13,6 @@ insert_values-requires c =
     }
 
 pub insert_from_query-requires : goal.insert_from_query-requires
-unfolding action_meant
 insert_from_query-requires c =
     let fit = insert_from_query-fits (rw c.in-InsertFromQuery.is at c.requires.fit_action) in
     record {
@@ -25,7 +22,6 @@ insert_from_query-requires c =
     }
 
 pub delete_rows-requires : goal.delete_rows-requires
-unfolding action_meant
 delete_rows-requires c =
     record {
       running = c.requires.running;
@@ -33,7 +29,6 @@ delete_rows-requires c =
     }
 
 pub update_rows-requires : goal.update_rows-requires
-unfolding action_meant
 update_rows-requires c =
     let fit = update_rows-fits (rw c.in-Update.is at c.requires.fit_action) in
     record {
@@ -44,26 +39,23 @@ update_rows-requires c =
     }
 
 pub returns-in-Rollback : goal.returns-in-Rollback
-unfolding action_meant Actions.perform
+unfolding Actions.perform
 returns-in-Rollback c =
     rw c.in-Rollback.is (rolled-back c.requires.running)
 
 pub returns-in-Insert : goal.returns-in-Insert
-unfolding action_meant Actions.perform
+unfolding Actions.perform
 returns-in-Insert c =
     rw c.in-Insert.is c.insert_values.ensures
 
 pub returns-in-InsertFromQuery : goal.returns-in-InsertFromQuery
-unfolding action_meant
 returns-in-InsertFromQuery c =
     rw c.in-InsertFromQuery.is c.insert_from_query.ensures
 
 pub returns-in-Delete : goal.returns-in-Delete
-unfolding action_meant
 returns-in-Delete c =
     rw c.in-Delete.is c.delete_rows.ensures
 
 pub returns-in-Update : goal.returns-in-Update
-unfolding action_meant
 returns-in-Update c =
     rw c.in-Update.is c.update_rows.ensures

@@ -3,7 +3,6 @@
 use borrow.Author.Rules.{rules}
 use Rattle.std.proofs.lemmas.Result.{err_from_is_err_and}
 use Rattle.terms.specs.Terms.{terms_meant}
-use Rattle.book.specs.Books.{expressions_at}
 use Rattle.action.proofs.Aside.{aside-chosen, running-aside}
 use Rattle.action.proofs.Prepared.{table-chosen, taken-rows, prepared, update-fails, update-ready, query-updates}
 use Rattle.action.proofs.update_rows.Goals as goal
@@ -12,7 +11,6 @@ pub work_out_all-requires-clause-laid : goal.work_out_all-requires-clause-laid
 work_out_all-requires-clause-laid c = (aside-chosen c.requires.running.represents.laid c.choose.ensures).laid
 
 pub returns-in_err-work_out_all : goal.returns-in_err-work_out_all
-unfolding expressions_at
 returns-in_err-work_out_all c =
     let is = err_from_is_err_and c.from_residual.result c.from_residual.ensures.1 in
     let made = table-chosen c.args.book.now c.args.triggers c.args.table c.args.terms c.requires.table_bound c.choose.ensures in
@@ -35,7 +33,6 @@ update_all-requires c =
     }
 
 pub returns : goal.returns
-unfolding expressions_at
 returns c =
     let made = table-chosen c.args.book.now c.args.triggers c.args.table c.args.terms c.requires.table_bound c.choose.ensures in
     query-updates c.args.table (terms_meant c.args.book.now c.args.triggers c.args.terms) c.requires.running.represents.laid
