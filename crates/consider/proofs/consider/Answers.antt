@@ -14,16 +14,13 @@ pub returns-in_default : goal.returns-in_default
 returns-in_default c =
     absurd (can-read (c.requires.planned.placed _ c.requires.count_bound.1) c.rule_at.ensures c.in_default.is)
 
-pub draw-requires : goal.draw-requires
-draw-requires c =
+pub draw-requires-clause-sorted : goal.draw-requires-clause-sorted
+draw-requires-clause-sorted c = live-sorted c.requires.ready.reached c.requires.ready.settled.represents
+
+pub draw-requires-clause-few : goal.draw-requires-clause-few
+draw-requires-clause-few c =
     let low : c.args.k < 16 = omega (arith, c.requires.count_bound) in
-    let few = draw-few c.requires.ready.settled _ low c.requires.k_bound c.requires.ready.reached _ in
-    record {
-      laid = c.requires.ready.settled.represents.laid;
-      k_bound = low;
-      sorted = live-sorted c.requires.ready.reached c.requires.ready.settled.represents;
-      few = few;
-    }
+    draw-few c.requires.ready.settled _ low c.requires.k_bound c.requires.ready.reached _
 
 pub returns-then-not-condition_holds : goal.returns-then-not-condition_holds
 returns-then-not-condition_holds c =

@@ -5,22 +5,14 @@ use Rattle.meaning.proofs.Lengths.{image-length}
 use Rattle.transaction.proofs.Runs.{starts, live-stands, transacts}
 use Rattle.transaction.proofs.transact.Goals as goal
 
-pub process-ended-requires : goal.process-ended-requires
-process-ended-requires c =
-    record {
-      count_bound = c.requires.accepts.few;
-      planned = c.requires.accepts.planned;
-      numbers = c.requires.accepts.numbers;
-      starts = starts c.requires.accepts c.load.ensures (search rules);
-    }
+pub process-ended-requires-clause-starts : goal.process-ended-requires-clause-starts
+process-ended-requires-clause-starts c = starts c.requires.accepts c.load.ensures (search rules)
 
-pub hand_back-requires : goal.hand_back-requires
-hand_back-requires c =
-    record {
-      stands = live-stands c.requires.accepts c.load.ensures (search rules) c.process-ended.ensures;
-      in_bounds = c.requires.in_bounds;
-      image_len_bound = image-length _ _ c.requires.accepts.rows.image;
-    }
+pub hand_back-requires-clause-stands : goal.hand_back-requires-clause-stands
+hand_back-requires-clause-stands c = live-stands c.requires.accepts c.load.ensures (search rules) c.process-ended.ensures
+
+pub hand_back-requires-clause-image_len_bound : goal.hand_back-requires-clause-image_len_bound
+hand_back-requires-clause-image_len_bound c = image-length _ _ c.requires.accepts.rows.image
 
 pub returns : goal.returns
 returns c =
