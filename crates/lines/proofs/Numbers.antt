@@ -1,70 +1,86 @@
--- Laws of numbers as text: the digits that `io::decimal` gives, the fewest that hold the number, are the specification's; and by its sign a
--- word's value is a number, or a minus sign and a number.
-use mathlib.Core.Path.{◌≡◌, ap, ◌∙◌}
-use mathlib.Core.List.{List, ◌++◌}
-use Prim.Native.Nat.{ℕ, zero, suc, ◌+◌, ◌-◌, ◌*◌, ◌/◌, ◌%◌, ◌^◌, ◌≤◌, ◌<◌}
-use native.Mathlib.Nat.{pow-succ', one-le-pow, pow-le-pow_right}
+-- Laws of numbers as text: what the library writes of a 32-bit number is its text, and of the value that a word stands for that value's. Numbers
+-- with a space in front of each are one more where one more is put.
+use mathlib.Core.Path.{◌≡◌, refl, sym, ap, ◌∙◌}
+use mathlib.Core.List.{List, [], ◌∷◌, ◌++◌, map, append-nil, append_assoc}
+use Prim.Native.Nat.{ℕ, zero, suc, ◌+◌, ◌-◌, ◌*◌, ◌≤◌, ◌<◌}
+use native.Mathlib.Nat.{add-mul, mul-le-mul_right}
+use native.Mathlib.Numerals.{add-one}
 use native.Mathlib.Omega.{arith}
 use borrow.Author.Tests.{lt-ltb, le-ltb, ltb-true, ltb-false}
 use lib.Dec.{ltb}
-use lib.ListN.{length}
-use Rattle.io.specs.Digits.{hex_digit_ascii, IsDigitCount}
-use Rattle.io.specs.Digits as Digits
+use lib.ListN.{length, get_or, take}
+use lib.Seq.{take-length}
+use Rattle.std.specs.Int.{cast_signed}
+use Rattle.std.specs.Fmt as Fmt
+use Rattle.std.proofs.Common.{w32}
+use Rattle.std.proofs.lemmas.Fmt.{decimal_from_appends, length-decimal-le}
 use Rattle.meaning.specs.Base.{ascii}
 use Rattle.meaning.specs.Values.{signed}
-use Rattle.meaning.specs.EntryPoints.{digits, decimal, signed_decimal}
+use Rattle.meaning.specs.EntryPoints.{digits, decimal, signed_decimal, spaced}
 use Rattle.words.proofs.Laws.{split}
 use Rattle.lines.specs.Text.{PutsAt}
-use Rattle.lines.proofs.Texts.{puts-as}
+use Rattle.lines.proofs.Texts.{puts-nothing, puts_then, puts-as}
 
--- a 32-bit number has at most ten digits
-pub ten-digits : (n k : ℕ) → n ≤ 4294967295 → IsDigitCount 10 1 n k → k ≤ 10
-ten-digits n k h w =
-    split (ltb 10 k)
+pub shown : (n : ℕ) → n < 4294967296 → Fmt.decimal n ≡ decimal n
+unfolding digits decimal
+shown n h =
+    sym (decimal_from_appends digits appends 10 n (omega arith) (length-decimal-le 10 n (omega arith) (omega arith) (omega arith)))
+  where
+    appends : Rattle.std.proofs.lemmas.Fmt.AppendsLastDigit digits
+    appends = record {
+      one = λ k n small. rw (lt-ltb n 10 small);
+      more = λ k n big. rw (le-ltb n 10 big);
+    }
+
+pub shown-value : (w : ℕ) → Fmt.signed_decimal (signed w) ≡ signed_decimal (signed w)
+unfolding signed signed_decimal
+shown-value w =
+    split (ltb w 2147483648)
+    (λ e. let small = ltb-true w 2147483648 e in rw e (shown w (omega arith)))
     (λ e.
-    let more = ltb-true 10 k e in
-    let big : 10 ^ 10 ≤ 10 ^ (k - 1) = pow-le-pow_right {n = 10} (omega arith) {i = 10} {j = k - 1} (omega arith) in
-    absurd (omega (arith, w.2 (omega arith))))
-    (λ e. ltb-false 10 k e)
+    let big = ltb-false w 2147483648 e in
+    rw e (ap (λ l. ascii "-" ++ l) (shown (suc (4294967295 - w)) (omega arith))))
 
-small-glyph : (d : ℕ) → d < 10 → hex_digit_ascii d ≡ 48 + d
-small-glyph d h = rw (lt-ltb d 10 h)
+pub as_value : (w : ℕ) → cast_signed w32 w ≡ signed w
+unfolding signed
+as_value w = let far : 4294967296 - suc w ≡ 4294967295 - w = omega arith in rw far
 
--- the fewest digits that hold a number are its text
-fewest-digits : (f k n : ℕ) → k ≤ f → IsDigitCount 10 1 n k → Digits.last_digits 10 k n ≡ digits f n
-unfolding digits
-fewest-digits f zero n h w = absurd (omega arith)
-fewest-digits zero (suc k) n h w = absurd (omega arith)
-fewest-digits (suc f) (suc zero) n h w =
-    let b : n < 10 = omega (arith, w.1) in
-    let m : n % 10 ≡ n = omega arith in
-    rw (lt-ltb n 10 b, m, small-glyph n b)
-fewest-digits (suc f) (suc (suc k)) n h w =
-    let p1 : 10 ^ suc (suc k) ≡ 10 * 10 ^ suc k = pow-succ' 10 (suc k) in
-    let p0 : 10 ^ suc k ≡ 10 * 10 ^ k = pow-succ' 10 k in
-    let one : 1 ≤ 10 ^ k = one-le-pow k 10 (omega arith) in
-    let e : suc (suc k) - 1 ≡ suc k = omega arith in
-    let e' : 10 ^ (suc k - 1) ≡ 10 ^ k = ap (λ (j : ℕ). 10 ^ j) (omega arith) in
-    let low : 10 ^ suc k ≤ n = rw e at (w.2 (omega arith)) in
-    let fits : n < 10 ^ suc (suc k) = w.1 in
-    let more = fewest-digits f (suc k) (n / 10) (omega arith) (omega arith, omega arith, λ _. omega arith) in
-    rw (le-ltb n 10 (omega arith), small-glyph (n % 10) (omega arith), more)
+-- ---- Numbers with a space in front of each
 
--- what is copied of the digits is the number
-pub puts-number : {xs ys s : List ℕ} {at r : ℕ} (n k : ℕ) → n ≤ 4294967295 → IsDigitCount 10 1 n k → k ≡ length s → s ≡ Digits.last_digits 10 k n
-    → PutsAt xs ys at (length s) s r → PutsAt xs ys at 10 (decimal n) r
-unfolding decimal
-puts-number n k h w l e p =
-    let few = ten-digits n k h w in
-    puts-as (e ∙ fewest-digits 10 k n few w) (omega arith) p
+spaced-more : {A : Type 0} (f : A → List ℕ) (xs : List A) (i : ℕ) (d : A) → i < length xs
+    → spaced (map f (take i xs)) ++ (ascii " " ++ f (get_or xs i d)) ≡ spaced (map f (take (suc i) xs))
+unfolding spaced
+spaced-more f [] i d h = absurd (omega arith)
+spaced-more f (x ∷ xs) zero d h = ap (λ l. ascii " " ++ l) (sym (append-nil (f x)))
+spaced-more f (x ∷ xs) (suc i) d h =
+    ap (λ l. ascii " " ++ l)
+    (append_assoc (f x) (spaced (map f (take i xs))) (ascii " " ++ f (get_or xs i d)) ∙ ap (λ l. f x ++ l) (spaced-more f xs i d (omega arith)))
 
--- the text of a word's value
-pub plain-text : (w : ℕ) → w < 2147483648 → decimal w ≡ signed_decimal (signed w)
-unfolding signed signed_decimal
-plain-text w h = rw (lt-ltb w 2147483648 h)
+module _ {A : Type 0} (f : A → List ℕ) (most : ℕ) (numbers : List A) where
+  -- the first i numbers are put from a place on
+  pub record Spaced (before after : List ℕ) (at i here : ℕ) : Type 0 where
+    pub put : PutsAt before after at (i * (1 + most)) (spaced (map f (take i numbers))) here
 
-pub minus-text : (n w : ℕ) → 2147483648 ≤ w → n ≡ 4294967295 - w + 1 → ascii "-" ++ decimal n ≡ signed_decimal (signed w)
-unfolding signed signed_decimal
-minus-text n w h e =
-    let is : n ≡ suc (4294967295 - w) = omega arith in
-    rw (le-ltb w 2147483648 h, is)
+  pub spaced-none : (xs : List ℕ) (at : ℕ) → Spaced xs xs at 0 at
+  unfolding spaced
+  spaced-none xs at = record { put = puts-as refl (omega arith) (puts-nothing refl) }
+
+  module _ {xs ys : List ℕ} {at i here : ℕ} (s : Spaced xs ys at i here) (more : i < length numbers) where
+    -- there is room for one number more
+    pub spaced-room : at + length numbers * (1 + most) ≤ length xs → here + (1 + most) ≤ length ys
+    spaced-room h =
+        let turn : (i + 1) * (1 + most) ≤ length numbers * (1 + most) = mul-le-mul_right (1 + most) (omega arith) in
+        omega (arith, s.put.near, s.put.kept, turn, add-mul i 1 (1 + most))
+
+    pub spaced-next : {zs us : List ℕ} {a b : ℕ} (n : A) → n ≡ get_or numbers i n → PutsAt ys zs here 1 (ascii " ") a
+        → PutsAt zs us a most (f n) b → Spaced xs us at (i + 1) b
+    spaced-next n is space number =
+        record {
+          put =
+              puts-as (rw (is, add-one i) (spaced-more f numbers i n more)) (omega (arith, add-mul i 1 (1 + most)))
+              (puts_then s.put (puts_then space number));
+        }
+
+  pub spaced-all : {xs ys : List ℕ} {at i here : ℕ} → Spaced xs ys at i here → i ≡ length numbers
+      → PutsAt xs ys at (length numbers * (1 + most)) (spaced (map f numbers)) here
+  spaced-all s all = rw (all, take-length numbers) at s.put

@@ -1,12 +1,12 @@
 -- Laws of texts that are put. Stores from one place on, and then stores from the place after them, are the stores of both texts together;
 -- so a text that is put part by part is the joined text, and one that is put from 0 on stands at the front.
 use mathlib.Core.Path.{◌≡◌, refl, sym, ap, ◌∙◌}
-use mathlib.Core.List.{List, [], ◌∷◌, ◌++◌, append-nil}
-use Prim.Native.Nat.{ℕ, suc, ◌+◌, ◌≤◌, ◌<◌}
-use native.Mathlib.Numerals.{add-one}
+use mathlib.Core.List.{List, [], ◌∷◌, ◌++◌, append-nil, append_assoc}
+use Prim.Native.Nat.{ℕ, suc, ◌+◌, ◌-◌, ◌≤◌}
 use native.Mathlib.Omega.{arith}
-use lib.ListN.{length, get_or, take, set, length-append, length-set}
-use lib.Seq.{sets, take-suc, take_all}
+use borrow.Rule.Slice.PartMut.{put_mid, Post-is}
+use lib.ListN.{length, take, drop, set, length-append}
+use lib.Seq.{sets, sets-eq, length-sets}
 use Rattle.image.proofs.Laws.{in-front-more}
 use Rattle.lines.specs.Text.{Puts, PutsAt}
 
@@ -50,15 +50,9 @@ puts-front {xs} {t = t} h p =
       fits = omega (arith, p.near);
     }
 
--- ---- A copy, byte by byte
-
-module _ {xs ys : List ℕ} (s : List ℕ) (at i : ℕ) (p : PutsAt xs ys at i (take i s) (at + i)) where
-  pub copy_more : i < length s → PutsAt xs (set ys (at + i) (get_or s i 0)) at (i + 1) (take (i + 1) s) (at + (i + 1))
-  copy_more h =
-      let e : take i s ++ (get_or s i 0 ∷ []) ≡ take (i + 1) s = rw add-one (sym (take-suc s i 0 h)) in
-      let b : PutsAt ys (set ys (at + i) (get_or s i 0)) (at + i) 1 (get_or s i 0 ∷ []) (at + (i + 1)) =
-      record { output = refl; kept = length-set ys (at + i) (get_or s i 0); ends = omega arith; near = omega arith } in
-      puts-as e (omega arith) (puts_then p b)
-
-  pub copy-all : length s ≤ i → i ≤ length s → PutsAt xs ys at (length s) s (at + i)
-  copy-all done within = puts-as (take_all i s done) within p
+-- bytes that are copied to a part of the output are stored from its start on
+pub puts-part : (xs s : List ℕ) (at : ℕ) → at + length s ≤ length xs
+    → PutsAt xs (put_mid at (at + length s - at) xs s) at (length s) s (at + length s)
+puts-part xs s at h =
+    let is : put_mid at (at + length s - at) xs s ≡ sets xs at s = rw (Post-is at (at + length s) xs (omega arith), sets-eq s xs at h) (sym (append_assoc (take at xs) s (drop (at + length s) xs))) in
+    record { output = is; kept = ap length is ∙ length-sets xs at s; ends = refl; near = omega arith }

@@ -70,25 +70,26 @@ row_loaded {s} {xs} {ys} at r is h =
 
 -- ---- The loop
 
--- The live rows, and then those that are left from here on, are the image's; only the live rows have changed since the tables were
--- emptied (`xs`).
-pub record Loading (s xs x : List ℕ) (count left here : ℕ) : Type 0 where
+-- After k rows: the live rows, and then those that are left from here on, are the image's; only the live rows have changed since the tables
+-- were emptied (`xs`).
+pub record Loading (s xs x : List ℕ) (count k here : ℕ) : Type 0 where
   pub rest : List Covers.Row
-  pub read : many left row s here ≡ got rest (length s)
+  pub read : many (count - k) row s here ≡ got rest (length s)
   pub all : readable count row s 11 ≡ live_rows x ++ rest
-  pub size : here + 21 * left ≡ length s
-  pub few : low32_at x LIVE + left ≤ ROWS
+  pub size : here + 21 * (count - k) ≡ length s
+  pub few : low32_at x LIVE + (count - k) ≤ ROWS
   pub frame : Frame LIVE INSERTED xs x
   pub stands : Stands LIVE ROWS x
 
-pub loading-start : {s x xs : List ℕ} {next count : ℕ} → WellFormed s next count → Emptied x xs → Loading s xs xs count count 11
+pub loading-start : {s x xs : List ℕ} {next count : ℕ} → WellFormed s next count → Emptied x xs → Loading s xs xs count 0 11
 unfolding live_rows rows_meant
 loading-start {s} {x} {xs} {next} {count} w e =
     let l = laid w in
+    let every : count - 0 ≡ count = omega arith in
     let none : low32_at xs LIVE ≡ 0 = sym (table-length xs LIVE) ∙ ap length e.live in
     record {
       rest = w.rows;
-      read = l.read;
+      read = rw every l.read;
       all = rows_are w ∙ rw e.live;
       size = omega arith;
       few = omega arith;
@@ -101,13 +102,14 @@ one-over : (rs : List Covers.Row) {rs' left left' : List Covers.Row} {r : Covers
     → rs ++ left ≡ rs' ++ left'
 one-over rs {left' = left'} {r = r} p q = rw (p, q) (sym (append_assoc rs (r ∷ []) left'))
 
-pub loading-more : {s xs x y : List ℕ} {count left here : ℕ} → Loading s xs x count left here → 0 < left → RowLoaded s here x y
-    → Loading s xs y count (left - 1) (here + 21)
-loading-more {s} {xs} {x} {y} {count} {left} {here} c more r =
-    let f = first_of row left s here more c.read in
+pub loading-more : {s xs x y : List ℕ} {count k here : ℕ} → Loading s xs x count k here → k < count → RowLoaded s here x y
+    → Loading s xs y count (k + 1) (here + 21)
+loading-more {s} {xs} {x} {y} {count} {k} {here} c more r =
+    let f = first_of row (count - k) s here (omega arith) c.read in
+    let fewer : count - k - 1 ≡ count - (k + 1) = omega arith in
     record {
       rest = f.others;
-      read = rw (row_ends s here f.read) at f.more;
+      read = rw (row_ends s here f.read, fewer) at f.more;
       all = c.all ∙ one-over (live_rows x) f.all (r.rows f.first f.next f.read);
       size = omega arith;
       few = omega (arith, r.size);
@@ -117,16 +119,16 @@ loading-more {s} {xs} {x} {y} {count} {left} {here} c more r =
 
 -- ---- The end
 
-pub loading-done : {s x0 x1 x2 x : List ℕ} {next count left here : ℕ} → WellFormed s next count → PutWord x0 x1 NEXT next
-    → Emptied x1 x2 → Loading s x2 x count left here → left ≤ 0 → Loads s x0 x
-loading-done {s} {x0} {x1} {x2} {x} {next} {count} {left} {here} w p e c done =
+pub loading-done : {s x0 x1 x2 x : List ℕ} {next count k here : ℕ} → WellFormed s next count → PutWord x0 x1 NEXT next
+    → Emptied x1 x2 → Loading s x2 x count k here → count ≤ k → Loads s x0 x
+loading-done {s} {x0} {x1} {x2} {x} {next} {count} {k} {here} w p e c done =
     record { is = λ start q. let same : image ≡ start = cc in rw (← same) loaded }
   where
     image : Image
     image = record { next = next; rows = w.rows }
 
     none_left : c.rest ≡ []
-    none_left = same-value (sym c.read ∙ many-none row left s here done)
+    none_left = same-value (sym c.read ∙ many-none row (count - k) s here (omega arith))
 
     loaded : Loaded image x0 x
     loaded =

@@ -1,8 +1,10 @@
 -- `lines::put_row` meets its contract: its parts, one after another, are the line of the row.
+use borrow.Author.Rules.{rules}
+use native.Mathlib.Omega.{arith}
 use Rattle.lines.proofs.Rows.{puts-row}
 use Rattle.lines.proofs.put_row.Goals as goal
 
 pub returns : goal.returns
 returns c =
-    puts-row c.args.r c.put_number-one.ensures c.put_after-two.ensures c.put_values-six.ensures
-    c.put_byte.ensures
+    puts-row c.args.r (omega arith) c.requires.table_bound c.put_number-handle.ensures c.put_numbers-table.ensures
+    c.put_numbers-values.ensures c.put_bytes.ensures (search rules) (search rules) (search rules) (search rules)

@@ -8,14 +8,16 @@ use Rattle.loading.proofs.empty_waits.Goals as goal
 pub loop-k-init : goal.loop-k-init
 loop-k-init c = upto-start
 
-pub empty-requires : goal.empty-requires
-unfolding table_bytes
-empty-requires c = omega (arith, c.loop-k.invariant.frame.len)
-
 pub loop-k-preserved : goal.loop-k-preserved
 loop-k-preserved c =
     let within : c.loop-k.k < 16 = omega arith in
-    upto-more _ c.loop-k.invariant within c.empty.ensures
+    upto-more _ c.loop-k.invariant within (rw c.wait.ensures at c.empty.ensures)
 
 pub returns : goal.returns
-returns c = upto_done _ c.loop-k.invariant c.loop-k-test.false
+returns c = upto_done _ c.loop-k.invariant (omega arith)
+
+pub empty-requires : goal.empty-requires
+unfolding table_bytes
+empty-requires c =
+    let within : c.loop-k.k < 16 = omega arith in
+    (omega arith, rw c.wait.ensures (omega (arith, c.loop-k.invariant.frame.len)))

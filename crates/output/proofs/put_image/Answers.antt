@@ -1,5 +1,5 @@
--- `output::put_image` meets its contract. The loop's invariant is `Writing`: up to here the output holds the image's head and the rows that
--- are done, and from here on what it held before the loop. The measure is the number of rows left.
+-- `output::put_image` meets its contract. The loop's invariant is `Writing`: up to here the output holds the image's head and its first i
+-- rows, and from here on what it held before the loop.
 use mathlib.Core.Path.{◌≡◌, sym, ◌∙◌}
 use native.Mathlib.Omega.{arith}
 use lib.ListN.{length, length-take, length-drop}
@@ -24,39 +24,39 @@ put_head-requires c = record {
   count_bound = omega arith;
 }
 
-pub loop-left-init : goal.loop-left-init
-loop-left-init c =
+pub loop-i-init : goal.loop-i-init
+loop-i-init c =
     let all : length (table_at c.args.room.now LIVE) ≡ c.size-n.result = table-length c.args.room.now LIVE ∙ sym c.size-n.ensures in
     writing_start (table_at c.args.room.now LIVE) (low32_at c.args.room.now NEXT) c.size-n.result c.args.out.now c.put_head.new.out all
     (omega (arith, c.size-n.ensures, c.requires.stands.size)) c.requires.in_bounds
     (rw c.low32.ensures at c.put_head.ensures)
 
 pub slice_bounds-put_row-count : goal.slice_bounds-put_row-count
-slice_bounds-put_row-count c = omega (arith, writing-length c.loop-left.invariant)
+slice_bounds-put_row-count c = omega (arith, writing-length c.loop-i.invariant (omega arith))
 
 pub slice_bounds-put_row-start : goal.slice_bounds-put_row-start
-slice_bounds-put_row-start c = omega (arith, writing-length c.loop-left.invariant)
+slice_bounds-put_row-start c = omega (arith, writing-length c.loop-i.invariant (omega arith))
 
 pub live_row-requires : goal.live_row-requires
 live_row-requires c =
     record {
       stands = c.requires.stands;
-      i_bound = omega (arith, c.loop-left.invariant.within, c.size-n.ensures);
+      i_bound = omega (arith, c.size-n.ensures);
     }
 
 pub put_row-requires : goal.put_row-requires
 put_row-requires c = record {
-  in_bounds = simp (length-take, length-drop) (omega (arith, writing-length c.loop-left.invariant));
+  in_bounds = simp (length-take, length-drop) (omega (arith, writing-length c.loop-i.invariant (omega arith)));
   table_bound = c.live_row.ensures.table;
 }
 
-pub loop-left-preserved : goal.loop-left-preserved
-loop-left-preserved c =
-    writing_more c.loop-left.invariant c.loop-left-test.true c.put_row.new.part
+pub loop-i-preserved : goal.loop-i-preserved
+loop-i-preserved c =
+    writing_more c.loop-i.invariant (omega arith) (omega arith) c.put_row.new.part
     (rw c.live_row.ensures.is at c.put_row.ensures)
 
 pub returns : goal.returns
 unfolding live_rows
 returns c =
-    writing-done c.loop-left.invariant c.loop-left-test.false c.args.out.now
+    writing-done c.loop-i.invariant (omega arith) (omega arith) c.args.out.now
     (rw c.low32.ensures at c.put_head.ensures)
