@@ -18,7 +18,7 @@ use Rattle.book.specs.declared.Rule.{Rule as RuleStood}
 use Rattle.book.specs.Books.{condition_meant, actions_meant, rule_of, rule_meant, rule_or}
 use Rattle.plan.specs.declared.Plan.{Plan}
 use Rattle.plan.specs.Plans.{rules_in, Planned}
-use Rattle.plan.proofs.Listed.{read-listed}
+use Rattle.plan.proofs.Standing.{read-listed}
 use Rattle.plan.proofs.Active.{low-own}
 use Rattle.room.specs.declared.Watch.{Watch}
 use Rattle.room.specs.Room.{END, Kept, watch_rule, live_rows, transition_in, waits_in}

@@ -6,7 +6,7 @@ use native.Mathlib.Omega.{arith}
 use Rattle.room.proofs.Live.{live-sorted}
 use Rattle.room.proofs.Draws.{draw-few}
 use Rattle.consider.proofs.Marked.{running-drawn}
-use Rattle.plan.proofs.Listed.{can-read}
+use Rattle.plan.proofs.Standing.{can-read}
 use Rattle.consider.proofs.Considered.{drawn, considers-acts, considers-none}
 use Rattle.consider.proofs.consider.Goals as goal
 
