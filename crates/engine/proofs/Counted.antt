@@ -1,4 +1,5 @@
 -- No run makes more considerations than a book can allow: a refused run makes none, and an accepted one as many as its book allows at most.
+use Rattle.std.specs.Prelude.{Ok}
 use mathlib.Core.Path.{◌≡◌, refl}
 use mathlib.Core.Bool.{Bool, true, false}
 use mathlib.Core.List.{List}
@@ -12,8 +13,7 @@ use Rattle.meaning.specs.Runs.{Spoken, is_refused, is_accepted}
 use Rattle.meaning.proofs.RunsFit.{run-limit}
 use Rattle.meaning.proofs.Theorems.{every-run, is_lawful}
 use Rattle.engine.specs.Answers.{answer_meant, Runs}
-use Rattle.engine.specs.declared.Answer.TheVariants.{Ran}
-use Rattle.processing.specs.declared.Outcome.{Outcome}
+use Rattle.processing.specs.declared.Ended.{Ended}
 
 verdict-counted : (image book log : List ℕ) → count_of (answer_of (verdict image book log)) ≤ most_steps
 unfolding count_of answer_of
@@ -34,7 +34,7 @@ run-counted image book log output room = go (ltb (length output) run_output) ref
     go false e false f = rw (e, f) (verdict-counted image book log)
 
 -- as the answer of a run tells it
-pub ran-counted : {image book log before after xs ys : List ℕ} {o : Outcome} {n : ℕ} → Runs image book log before after xs ys (Ran o n)
-    → n ≤ most_steps
+pub ran-counted : {image book log before after xs ys : List ℕ} {e : Ended} → Runs image book log before after xs ys (Ok e)
+    → e.count ≤ most_steps
 unfolding answer_meant count_of
 ran-counted {image} {book} {log} {before} {after} {xs} r = rw r.result at (run-counted image book log before xs)

@@ -1,21 +1,13 @@
 -- The contracts leave no choice: they are equations with the specification, and an answer can be had back from what it stands for.
+use Rattle.std.specs.Prelude.{Ok, Err}
 use mathlib.Core.Path.{◌≡◌, refl, sym, ap, ◌∙◌}
-use Rattle.meaning.specs.Covers as Covers
 use Rattle.meaning.specs.EntryPoints as EntryPoints
 use Rattle.meaning.specs.EntryPoints.{CheckAnswer, refused_check, rule_count, refused_with, ran}
-use Rattle.changes.specs.declared.Reason.{Reason}
-use Rattle.changes.specs.declared.Reason.TheVariants.{NoSuchRow, Full, HandlesUsedUp, SumOutOfRange}
-use Rattle.changes.specs.Steps.{reason_meant}
 use Rattle.processing.specs.declared.Outcome.{Outcome}
-use Rattle.processing.specs.declared.Outcome.TheVariants.{Commit, RolledBack, StepLimit, Failed}
-use Rattle.processing.specs.Endings.{outcome_meant}
+use Rattle.processing.proofs.Outcomes.{outcome_back, outcome-back}
 use Rattle.engine.specs.declared.Refusal.{Refusal}
 use Rattle.engine.specs.declared.Refusal.TheVariants.{Output, Room, Image, Book, Cycle, Log}
-use Rattle.engine.specs.declared.Checked.{Checked}
-use Rattle.engine.specs.declared.Checked.TheVariants.{Refused, Rules}
-use Rattle.engine.specs.declared.Answer.{Answer}
-use Rattle.engine.specs.declared.Answer.TheVariants as answer
-use Rattle.engine.specs.Answers.{refusal_meant, check_meant, answer_meant}
+use Rattle.engine.specs.Answers.{Answer, Checked, refusal_meant, check_meant, answer_meant}
 use Rattle.engine.specs.Determined.{Determined}
 
 -- what can be had back from its meaning is determined by it
@@ -23,7 +15,7 @@ module _ {A B : Type 0} (meant : A → B) (back : B → A) (same : (a : A) → b
   by-meaning : (a b : A) → meant a ≡ meant b → a ≡ b
   by-meaning a b e = sym (same a) ∙ ap back e ∙ same b
 
--- ---- Refusals, reasons and outcomes, had back
+-- ---- Refusals, had back
 
 -- 7 is the program's alone
 refusal_back : EntryPoints.Refusal → Refusal
@@ -44,51 +36,25 @@ refusal-back Book = refl
 refusal-back Cycle = refl
 refusal-back Log = refl
 
-reason_back : Covers.Reason → Reason
-reason_back Covers.Reason.no_such_row = NoSuchRow
-reason_back Covers.Reason.full = Full
-reason_back Covers.Reason.handles_used_up = HandlesUsedUp
-reason_back Covers.Reason.sum_out_of_range = SumOutOfRange
-
-reason-back : (r : Reason) → reason_back (reason_meant r) ≡ r
-unfolding reason_back
-reason-back NoSuchRow = refl
-reason-back Full = refl
-reason-back HandlesUsedUp = refl
-reason-back SumOutOfRange = refl
-
-outcome_back : Covers.Outcome → Outcome
-outcome_back Covers.Outcome.commit = Commit
-outcome_back Covers.Outcome.rolled_back = RolledBack
-outcome_back Covers.Outcome.step_limit = StepLimit
-outcome_back (Covers.Outcome.failed r) = Failed (reason_back r)
-
-outcome-back : (o : Outcome) → outcome_back (outcome_meant o) ≡ o
-unfolding outcome_back
-outcome-back Commit = refl
-outcome-back RolledBack = refl
-outcome-back StepLimit = refl
-outcome-back (Failed r) = ap Failed (reason-back r)
-
 -- ---- Answers, had back
 
 answer_back : EntryPoints.Answer → Answer
-answer_back (refused_with r) = answer.Refused (refusal_back r)
-answer_back (ran o n) = answer.Ran (outcome_back o) n
+answer_back (refused_with r) = Err (refusal_back r)
+answer_back (ran o n) = Ok (record { outcome = outcome_back o; count = n })
 
 answer_back_lem : (r : Answer) → answer_back (answer_meant r) ≡ r
 unfolding answer_meant answer_back
-answer_back_lem (answer.Refused r) = ap answer.Refused (refusal-back r)
-answer_back_lem (answer.Ran o n) = ap (λ o. answer.Ran o n) (outcome-back o)
+answer_back_lem (Err r) = ap Err (refusal-back r)
+answer_back_lem (Ok e) = ap (λ (o : Outcome). Ok (record { outcome = o; count = e.count })) (outcome-back e.outcome)
 
 check_back : CheckAnswer → Checked
-check_back (refused_check r) = Refused (refusal_back r)
-check_back (rule_count n) = Rules n
+check_back (refused_check r) = Err (refusal_back r)
+check_back (rule_count n) = Ok n
 
 check-back : (r : Checked) → check_back (check_meant r) ≡ r
 unfolding check_meant check_back
-check-back (Refused r) = ap Refused (refusal-back r)
-check-back (Rules n) = refl
+check-back (Err r) = ap Err (refusal-back r)
+check-back (Ok n) = refl
 
 -- ---- The contracts
 

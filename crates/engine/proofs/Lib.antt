@@ -1,5 +1,5 @@
+mod Refused
 pub mod Judged
-pub mod Numbers
 pub mod Ordered
 pub mod Running
 pub mod Counted

@@ -15,8 +15,7 @@ use Rattle.meaning.specs.Runs.{Accepted, ending_of, Spoken, is_refused, is_accep
 use Rattle.meaning.proofs.RunsFit.{run_sound, run-end-sound}
 use Rattle.meaning.proofs.WrittenRead.{image-fits}
 use Rattle.meaning.proofs.Theorems.{every-run}
-use Rattle.engine.specs.Answers.{Runs}
-use Rattle.engine.specs.declared.Answer.{Answer}
+use Rattle.engine.specs.Answers.{Answer, Runs}
 
 in-front-kept : (xs ys : List ℕ) → length xs ≤ length ys → length (in_front_of xs ys) ≡ length ys
 in-front-kept xs ys h = omega (arith, length-append xs (drop (length xs) ys), length-drop (length xs) ys)

@@ -1,5 +1,5 @@
 -- A book that is read has at most 16 rules, so a book check that is not refused tells no more.
-use Rattle.std.specs.Prelude.{if◌then◌else◌}
+use Rattle.std.specs.Prelude.{if◌then◌else◌, Ok}
 use mathlib.Core.Path.{◌≡◌, refl, ap}
 use mathlib.Core.Bool.{Bool, true, false}
 use mathlib.Core.List.{List}
@@ -13,9 +13,8 @@ use Rattle.meaning.specs.EntryPoints.{checked, check_book, check_output, output_
 use Rattle.meaning.proofs.RunsFit.{judged-read}
 use Rattle.meaning.proofs.RuleBytes.{rules-read}
 use Rattle.engine.specs.Answers.{check_meant, Checks}
-use Rattle.engine.specs.declared.Checked.TheVariants.{Rules}
 
-pub checks-few : {book before after : List ℕ} {n : ℕ} → Checks book before after (Rules n) → n ≤ most_rules
+pub checks-few : {book before after : List ℕ} {n : ℕ} → Checks book before after (Ok n) → n ≤ most_rules
 unfolding check_book checked check_meant
 checks-few {book} {before} {after} {n} c = go (ltb (length before) check_output) (judge_book book) refl (ap answered c.result)
   where

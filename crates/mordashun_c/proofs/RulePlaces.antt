@@ -1,7 +1,7 @@
 -- The word of a rule's place. What is read of a book stands in it, and a rule takes bytes; an accepted book is short. So start and size fit
 -- their bits, and a caller who takes the word apart finds the rule's bytes.
-use Rattle.std.specs.Prelude.{if◌then◌else◌}
-use mathlib.Core.Path.{◌≡◌, refl, sym, ap, ◌∙◌}
+use Rattle.std.specs.Prelude.{if◌then◌else◌, Option, Some, None}
+use mathlib.Core.Path.{◌≡◌, refl}
 use mathlib.Core.Bool.{Bool, true, false}
 use mathlib.Core.List.{List, []}
 use mathlib.Core.Option.{some}
@@ -20,18 +20,9 @@ use Rattle.meaning.proofs.Takes.{many-takes, rule-takes}
 use Rattle.meaning.proofs.RuleBytes.{one_of, rules-read}
 use Rattle.meaning.proofs.Theorems.{lengths}
 use Rattle.meaning.proofs.RunsFit.{judged-read}
-use Rattle.words.specs.Words.{end_of}
-use Rattle.words.specs.declared.End.{End}
-use Rattle.words.specs.declared.End.TheVariants.{At}
-use Rattle.words.proofs.Laws.{ends-readable}
-use Rattle.book.specs.Books.{WellFormed, rule_or}
-use Rattle.book.specs.declared.Rule as book
-use Rattle.book.specs.declared.RuleRead.{RuleRead}
-use Rattle.book.specs.declared.RuleRead.TheVariants.{Is}
+use Rattle.book.specs.Books.{span_to, span_after, rule_span}
 use Rattle.book.proofs.Inside.{rule-inside, inside-ends}
-use Rattle.plan.specs.Plans.{Planned}
-use Rattle.plan.specs.declared.Plan.{Plan}
-use Rattle.engine.proofs.Judged.{with-order, rules-counted}
+use Rattle.engine.proofs.Judged.{Counts}
 use Rattle.mordashun_c.specs.Places.{start_read, start_after, start_in, rule_start, place_word, rule_word, word_among, RuleAt, EveryRule}
 
 -- ---- The word by what is said of the book
@@ -41,10 +32,50 @@ module _ (s : List ℕ) (k : ℕ) where
   unfolding rule_word rule_start start_in rule_bytes rule_in
   refused-nowhere r e = rw e
 
-  pub place-given : (limit n : ℕ) (plan : Plan) → WellFormed s limit n → Planned s n plan → plan.order.found ≡ true
-      → {w : ℕ} → w ≡ word_among s n k → w ≡ rule_word s k
+  pub place-given : {n : ℕ} → Counts s n → {w : ℕ} → w ≡ word_among s n k → w ≡ rule_word s k
   unfolding rule_word rule_start start_in rule_bytes rule_in
-  place-given limit n plan w p e is = rw (with-order s limit n plan w p e, rules-counted s limit n plan w p) is
+  place-given c is = rw (c.is, c.counted) is
+
+-- ---- The word by where the rule stands
+
+pub part_length : (s : List ℕ) (from next : ℕ) → next ≤ length s → length (take (next - from) (drop from s)) ≡ next - from
+part_length s from next h = simp (length-take, length-drop) (omega arith)
+
+span_word : List ℕ → Option (ℕ × ℕ) → ℕ
+span_word s None = 0
+span_word s (Some (start, end)) = place_word start (take (end - start) (drop start s))
+
+module _ (s : List ℕ) (n : ℕ) where
+  read-word : (from : ℕ) (r : Read Rule) → place_word (start_read from r) (bytes_read s from r) ≡ span_word s (span_to from r)
+  unfolding start_read bytes_read span_to span_word
+  read-word from bad = refl
+  read-word from (got x next) = refl
+
+  after-word : (r : Read (List Rule)) → place_word (start_after s n r) (rule_after s n r) ≡ span_word s (span_after s n r)
+  unfolding start_after rule_after span_after span_word
+  after-word bad = refl
+  after-word (got xs from) = read-word from (rule n s from)
+
+  among-word : (k : ℕ) → word_among s n k ≡ span_word s (rule_span s n k)
+  unfolding span_word
+  among-word k = go (ltb k n)
+    where
+      go : (t : Bool) → let r = many k (rule n) s first_rule in
+          place_word (if t then start_after s n r else 0) (if t then rule_after s n r else [])
+          ≡ span_word s (if t then span_after s n r else None)
+      go true = after-word (many k (rule n) s first_rule)
+      go false = refl
+
+  module _ (k : ℕ) {span : Option (ℕ × ℕ)} (e : span ≡ rule_span s n k) where
+    -- by where it stands in the slice
+    pub span-found : {start end w : ℕ} → span ≡ Some (start, end) → end ≤ length s → w ≡ start * 4294967296 + (end - start)
+        → w ≡ word_among s n k
+    unfolding span_word
+    span-found {start} {end} is inside told = rw (among-word k, ← e, is) (rw (part_length s start end inside) told)
+
+    pub span-missing : span ≡ None → 0 ≡ word_among s n k
+    unfolding span_word
+    span-missing is = rw (among-word k, ← e, is)
 
 -- ---- Rules of a short book fit the word
 
@@ -57,9 +88,6 @@ record Fitting (s : List ℕ) (start : ℕ) (bytes : List ℕ) : Type 0 where
 
 nowhere : (s : List ℕ) → Fitting s 0 []
 nowhere s = record { same = refl; inside = omega arith; early = omega arith; few = omega arith }
-
-pub part_length : (s : List ℕ) (from next : ℕ) → next ≤ length s → length (take (next - from) (drop from s)) ≡ next - from
-part_length s from next h = simp (length-take, length-drop) (omega arith)
 
 module _ (s : List ℕ) (n : ℕ) where
   -- from here to there a rule stands, after the book's first fields and inside the book
@@ -75,13 +103,6 @@ module _ (s : List ℕ) (n : ℕ) where
     takes = ((rule-takes n).took f).0;
     inside = (inside-ends (rule-inside n s from) f).1;
   }
-
-  -- by the answers of `rules_end` and `rule_at`
-  pub rule-spans : (k : ℕ) {e : End} {r : RuleRead} {found : book.Rule} {from next : ℕ}
-      → e ≡ end_of (many k (rule n) s first_rule) → e ≡ At from → rule_or s r ≡ rule n s from → r ≡ Is found next → Span from next
-  unfolding rule_or
-  rule-spans k {from = from} e at f is =
-      rule-read k (ends-readable (rule n) k s first_rule from (sym e ∙ at)) (sym f ∙ ap (λ (read : RuleRead). rule_or s read) is)
 
   module _ (short : length s ≤ 5480) (k : ℕ) where
     read_fits : {xs : List Rule} (from : ℕ) → many k (rule n) s first_rule ≡ got xs from → (r : Read Rule) → rule n s from ≡ r

@@ -10,9 +10,7 @@ use Rattle.meaning.specs.EntryPoints as EntryPoints
 use Rattle.meaning.specs.EntryPoints.{refusal_number, outcome_number, failure_number, reason_number}
 use Rattle.meaning.specs.EntryPoints.{output_too_short, room_too_short, image_malformed, book_malformed, precedes_cycle}
 use Rattle.meaning.specs.EntryPoints.{log_malformed, input_too_long}
-use Rattle.engine.specs.Answers.{answer_meant, check_meant, Runs, Checks}
-use Rattle.engine.specs.declared.Answer.{Answer}
-use Rattle.engine.specs.declared.Checked.{Checked}
+use Rattle.engine.specs.Answers.{Answer, Checked, answer_meant, check_meant, Runs, Checks}
 use Rattle.mordashun_c.specs.Answered.{answer_word, check_word, Bits, EveryWord, RunAnswered, CheckAnswered}
 
 -- ---- Numbers are small

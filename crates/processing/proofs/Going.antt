@@ -1,14 +1,12 @@
 -- Before each turn: whatever the rest from here ends as, the whole ends as. So one turn more keeps it, and the last one gives the ending.
 use Rattle.std.specs.Prelude.{Option, Some, None, Ok, Err}
-use mathlib.Core.Path.{◌≡◌, refl, ◌∙◌}
+use mathlib.Core.Path.{◌≡◌, ◌∙◌}
 use mathlib.Core.List.{List}
 use Prim.Native.Nat.{ℕ, ◌+◌, ◌-◌, ◌≤◌, ◌<◌}
 use native.Mathlib.Omega.{arith}
-use native.Mathlib.Numerals.{unary_clauses}
 use lib.ListN.{length, get_or}
 use Rattle.room.specs.Room.{END, Kept}
-use Rattle.room.specs.Represents.{Ready}
-use Rattle.room.proofs.Kept.{kept_refl, kept_trans}
+use Rattle.room.proofs.Kept.{kept_trans}
 use Rattle.changes.specs.declared.Stop.{Stop}
 use Rattle.changes.specs.Steps.{Step}
 use Rattle.plan.specs.declared.Plan.{Plan}
@@ -30,19 +28,8 @@ pub record Going (xs zs book : List ℕ) (plan : Plan) (limit : ℕ) (b : Budget
   pub midway : Midway zs book plan
   pub rest : (ys : List ℕ) (r : Ended) → EndsFrom zs ys book plan (limit - b.count) b.count r → EndsFrom xs ys book plan limit 0 r
 
-pub going_start : {xs book : List ℕ} {plan : Plan} (limit : ℕ) → Midway xs book plan
-    → Going xs xs book plan limit (record { count = 0; limit = limit })
-going_start limit m = record { same = refl; within = omega arith; beyond = kept_refl; midway = m; rest = λ ys r e. simp unary_clauses at e }
-
 module _ {xs zs vs book : List ℕ} {plan : Plan} {limit : ℕ} {b : Budget} (g : Going xs zs book plan limit b)
     {found : Option ℕ} (t : Looks zs vs book plan found) where
-  -- what the room is for a rule to be considered
-  pub going-ready : Ready vs plan.tables
-  going-ready =
-      let m = g.midway in
-      let there = t.rests m.start m.state m.reaches in
-      record { start = m.start; state = m.state; reached = there.reached; settled = there.settled }
-
   pub going-kept : Kept END (length xs) xs vs
   going-kept = kept_trans g.beyond (rw g.beyond.len at t.beyond)
 

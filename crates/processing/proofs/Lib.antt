@@ -3,3 +3,4 @@ mod Looking
 mod Turns
 mod Going
 mod Logged
+pub mod Outcomes

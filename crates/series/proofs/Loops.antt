@@ -65,10 +65,11 @@ module _ {A : Type 0} {p : Parser A} {step : A → Image → Result} {run : List
     then-rest : Onward xs ys (run (readable count p s from)) (λ m. and_then m (step a m) (run (readable (count - (done + 1)) p s next)))
     then-rest =
         let one_less : count - done - 1 ≡ count - (done + 1) = omega arith in
-        rw
-        (readable-more p (count - done) s here a next (omega arith) e,
-        series.more a (readable (count - done - 1) p s next),
-        one_less)
+        rw (
+          readable-more p (count - done) s here a next (omega arith) e,
+          series.more a (readable (count - done - 1) p s next),
+          one_less,
+        )
         at l.onward
 
     pub left-more : {zs : List ℕ} → Makes (step a) → Acts ys zs (step a) (Ok tt) → Left p run s xs zs count from (done + 1) next

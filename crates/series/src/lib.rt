@@ -29,7 +29,12 @@ pub fn run_log(room: &mut [u8], log: &[u8], count: usize) -> Result<(), Stop>
 }
 
 // The actions of a rule with these triggers, on the transition tables that stand in the room.
-pub fn run_actions(room: &mut [u8], book: &[u8], triggers: usize, actions: Actions) -> Result<(), Stop>
+pub fn run_actions(
+    room: &mut [u8],
+    book: &[u8],
+    triggers: usize,
+    actions: Actions,
+) -> Result<(), Stop>
     requires { Running room.old }
     ensures { Acts room.old room.new
         (run_actions (transition_in room.old) (actions_meant book.now triggers actions)) result }

@@ -1,10 +1,10 @@
 -- `engine::run` meets its contract: each of its answers is what the specification says of such inputs.
-use borrow.Author.Tests.{not-true, not-false}
 use lib.ListN.{length}
 use native.Mathlib.Omega.{arith}
 use Prim.Native.Nat.{◌≤◌}
 use Rattle.engine.specs.Answers.{refusal_meant}
 use Rattle.engine.specs.declared.Refusal.TheVariants.{Image, Book, Cycle, Log}
+use Rattle.engine.proofs.Refused.{refused, none-there, some-there}
 use Rattle.engine.proofs.Judged.{refused-malformed, told, without-order}
 use Rattle.engine.proofs.Running.{image-told, image-refused, book-refused, log-refused, accepts, log-accepted}
 use Rattle.engine.proofs.Running.{output-refused, room-refused, run-refused, run-accepted}
@@ -16,73 +16,74 @@ returns-then-out-lt-OUTPUT c = output-refused (omega arith)
 pub returns-then-room-lt-ROOM : goal.returns-then-room-lt-ROOM
 returns-then-room-lt-ROOM c = room-refused (omega arith) (omega arith)
 
-pub plan_of-plan-requires : goal.plan_of-plan-requires
-plan_of-plan-requires c =
-    let w = told c.args.book.now c.judge-in-Is.ensures.told c.in-Is-judge.is in
-    record {
-      n_bound = w.few;
-      s_value = w.read;
-    }
-
--- no order
-pub returns-then-not-order : goal.returns-then-not-order
+-- a malformed image
+pub returns-in_err-head : goal.returns-in_err-head
 unfolding refusal_meant
-returns-then-not-order c =
+returns-in_err-head c =
     let long : 1355 ≤ length c.args.out.now = omega arith in
     let roomy : 65536 ≤ length c.args.room.now = omega arith in
-    let i = image-told c.args.image.now c.judge.ensures.told c.in-Is.is in
-    let b = told c.args.book.now c.judge-in-Is.ensures.told c.in-Is-judge.is in
-    let cycle = without-order c.args.book.now _ _ c.plan_of-plan.result b c.plan_of-plan.ensures (not-true _ c.if-not-order.true) in
-    run-refused long roomy Cycle (book-refused c.args.image.now _ c.args.log.now _ _ i _ cycle)
-
--- an accepted run
-pub transact-e-requires : goal.transact-e-requires
-transact-e-requires c =
-    let i = image-told c.args.image.now c.judge.ensures.told c.in-Is.is in
-    let b = told c.args.book.now c.judge-in-Is.ensures.told c.in-Is-judge.is in
-    record {
-      accepts = accepts _ _ c.args.log.now _ _ i _ _ c.plan_of-plan.result b c.plan_of-plan.ensures (not-false _ c.if-not-order.false) _;
-      in_bounds = omega arith;
-      in_bounds_2 = omega arith;
-    }
-
-pub returns-in-Is-judge-2 : goal.returns-in-Is-judge-2
-returns-in-Is-judge-2 c =
-    let long : 1355 ≤ length c.args.out.now = omega arith in
-    let roomy : 65536 ≤ length c.args.room.now = omega arith in
-    let i = image-told c.args.image.now c.judge.ensures.told c.in-Is.is in
-    let b = told c.args.book.now c.judge-in-Is.ensures.told c.in-Is-judge.is in
-    let v = log-accepted _ _ c.args.log.now _ _ i _ _ c.plan_of-plan.result b c.plan_of-plan.ensures (not-false _ c.if-not-order.false) _ i.image _ _
-    c.judge-in-Is-judge.ensures c.in-Is-judge-2.is in
-    run-accepted long roomy v (c.transact-e.ensures.hands_back _ i.image) c.transact-e.ensures.cleared
-
--- a malformed log
-pub returns-in-Bad-judge-2 : goal.returns-in-Bad-judge-2
-unfolding refusal_meant
-returns-in-Bad-judge-2 c =
-    let long : 1355 ≤ length c.args.out.now = omega arith in
-    let roomy : 65536 ≤ length c.args.room.now = omega arith in
-    let i = image-told c.args.image.now c.judge.ensures.told c.in-Is.is in
-    let b = told c.args.book.now c.judge-in-Is.ensures.told c.in-Is-judge.is in
-    let v = log-refused _ _ c.args.log.now _ _ i _ _ c.plan_of-plan.result b c.plan_of-plan.ensures (not-false _ c.if-not-order.false) _
-    c.judge-in-Is-judge.ensures c.in-Bad-judge-2.is in
-    run-refused long roomy Log v
+    let is = refused c.judge.result c.from_residual.result c.ok_or.ensures.value c.in_err-head.was c.from_residual.ensures.1 in
+    let malformed = image-refused c.args.image.now c.args.book.now c.args.log.now _ c.judge.ensures.result_value is.0 in
+    rw is.1 (run-refused long roomy Image malformed)
 
 -- a malformed book
-pub returns-in-Bad-judge : goal.returns-in-Bad-judge
+pub returns-in_err-frame : goal.returns-in_err-frame
 unfolding refusal_meant
-returns-in-Bad-judge c =
+returns-in_err-frame c =
     let long : 1355 ≤ length c.args.out.now = omega arith in
     let roomy : 65536 ≤ length c.args.room.now = omega arith in
-    let i = image-told c.args.image.now c.judge.ensures.told c.in-Is.is in
-    let malformed = refused-malformed c.args.book.now _ c.judge-in-Is.ensures.result_value c.in-Bad-judge.is in
-    run-refused long roomy Book (book-refused c.args.image.now _ c.args.log.now _ _ i _ malformed)
+    let i = image-told c.args.image.now c.judge.ensures.told c.in_ok-head.ensures.ok_part in
+    let is =
+    refused c.judge-2.result c.from_residual-in_err-frame.result c.ok_or-2.ensures.value c.in_err-frame.was
+    c.from_residual-in_err-frame.ensures.1 in
+    let malformed = refused-malformed c.args.book.now _ c.judge-2.ensures.result_value is.0 in
+    rw is.1 (run-refused long roomy Book (book-refused c.args.image.now _ c.args.log.now _ _ i _ malformed))
 
--- a malformed image
-pub returns-in-Bad : goal.returns-in-Bad
+-- no order
+pub returns-then-is_none : goal.returns-then-is_none
 unfolding refusal_meant
-returns-in-Bad c =
+returns-then-is_none c =
     let long : 1355 ≤ length c.args.out.now = omega arith in
     let roomy : 65536 ≤ length c.args.room.now = omega arith in
-    let malformed = image-refused c.args.image.now c.args.book.now c.args.log.now _ c.judge.ensures.result_value c.in-Bad.is in
-    run-refused long roomy Image malformed
+    let i = image-told c.args.image.now c.judge.ensures.told c.in_ok-head.ensures.ok_part in
+    let b = told c.args.book.now c.judge-2.ensures.told c.in_ok-frame.ensures.ok_part in
+    let gone = none-there c.plan_of-plan.result.order c.is_none.ensures c.if-is_none.true in
+    let cycle = without-order c.args.book.now _ _ c.plan_of-plan.result b c.plan_of-plan.ensures gone in
+    run-refused long roomy Cycle (book-refused c.args.image.now _ c.args.log.now _ _ i _ cycle)
+
+-- a malformed log
+pub returns-in_err-operations : goal.returns-in_err-operations
+unfolding refusal_meant
+returns-in_err-operations c =
+    let long : 1355 ≤ length c.args.out.now = omega arith in
+    let roomy : 65536 ≤ length c.args.room.now = omega arith in
+    let i = image-told c.args.image.now c.judge.ensures.told c.in_ok-head.ensures.ok_part in
+    let b = told c.args.book.now c.judge-2.ensures.told c.in_ok-frame.ensures.ok_part in
+    let order = some-there c.plan_of-plan.result.order c.is_none.ensures c.if-is_none.false in
+    let is =
+    refused c.judge-3.result c.from_residual-in_err-operations.result c.ok_or-3.ensures.value c.in_err-operations.was
+    c.from_residual-in_err-operations.ensures.1 in
+    let malformed =
+    log-refused _ _ c.args.log.now _ _ i _ _ c.plan_of-plan.result b c.plan_of-plan.ensures order.1 _ c.judge-3.ensures is.0 in
+    rw is.1 (run-refused long roomy Log malformed)
+
+-- an accepted run
+pub transact-requires-clause-accepts : goal.transact-requires-clause-accepts
+transact-requires-clause-accepts c =
+    let i = image-told c.args.image.now c.judge.ensures.told c.in_ok-head.ensures.ok_part in
+    let b = told c.args.book.now c.judge-2.ensures.told c.in_ok-frame.ensures.ok_part in
+    let order = some-there c.plan_of-plan.result.order c.is_none.ensures c.if-is_none.false in
+    accepts _ _ c.args.log.now _ _ i _ _ c.plan_of-plan.result b c.plan_of-plan.ensures order.1 _
+
+pub returns : goal.returns
+returns c =
+    let long : 1355 ≤ length c.args.out.now = omega arith in
+    let roomy : 65536 ≤ length c.args.room.now = omega arith in
+    let i = image-told c.args.image.now c.judge.ensures.told c.in_ok-head.ensures.ok_part in
+    let b = told c.args.book.now c.judge-2.ensures.told c.in_ok-frame.ensures.ok_part in
+    let order = some-there c.plan_of-plan.result.order c.is_none.ensures c.if-is_none.false in
+    let log = c.in_ok-operations.ensures.ok_part in
+    let v =
+    log-accepted _ _ c.args.log.now _ _ i _ _ c.plan_of-plan.result b c.plan_of-plan.ensures order.1 _ i.image _ _
+    c.judge-3.ensures log in
+    run-accepted long roomy v (c.transact.ensures.hands_back _ i.image) c.transact.ensures.cleared

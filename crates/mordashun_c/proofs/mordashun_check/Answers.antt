@@ -6,14 +6,14 @@ use Rattle.mordashun_c.proofs.Words.{check-answered}
 use Rattle.mordashun_c.proofs.mordashun_check.Goals as goal
 
 pub rules-requires : goal.rules-requires
-rules-requires c = checks-few (rw c.in-Rules.is at c.check.ensures)
+rules-requires c = checks-few (rw c.in-Ok.is at c.check.ensures)
 
-pub returns-in-Refused : goal.returns-in-Refused
+pub returns-in-Err : goal.returns-in-Err
 unfolding check_meant check_word
-returns-in-Refused c =
-    check-answered c.check.ensures (rw c.in-Refused.is c.refused.ensures)
+returns-in-Err c =
+    check-answered c.check.ensures (rw c.in-Err.is c.refused.ensures)
 
-pub returns-in-Rules : goal.returns-in-Rules
+pub returns-in-Ok : goal.returns-in-Ok
 unfolding check_meant
-returns-in-Rules c =
-    check-answered c.check.ensures (rw c.in-Rules.is c.rules.ensures)
+returns-in-Ok c =
+    check-answered c.check.ensures (rw c.in-Ok.is c.rules.ensures)

@@ -7,14 +7,14 @@ use Rattle.mordashun_c.proofs.mordashun_run.Goals as goal
 
 pub ran-requires : goal.ran-requires
 ran-requires c =
-    ran-counted (rw c.in-Ran.is at c.run.ensures)
+    ran-counted (rw c.in-Ok.is at c.run.ensures)
 
-pub returns-in-Refused : goal.returns-in-Refused
+pub returns-in-Err : goal.returns-in-Err
 unfolding answer_meant answer_word
-returns-in-Refused c =
-    run-answered c.run.ensures (rw c.in-Refused.is c.refused.ensures)
+returns-in-Err c =
+    run-answered c.run.ensures (rw c.in-Err.is c.refused.ensures)
 
-pub returns-in-Ran : goal.returns-in-Ran
+pub returns-in-Ok : goal.returns-in-Ok
 unfolding answer_meant
-returns-in-Ran c =
-    run-answered c.run.ensures (rw c.in-Ran.is c.ran.ensures)
+returns-in-Ok c =
+    run-answered c.run.ensures (rw c.in-Ok.is c.ran.ensures)

@@ -1,5 +1,7 @@
 -- `series::run_log` meets its contract. The loop's invariant: what is left of the log, run from the room now, does what all of it does from
 -- the room at the start.
+use Rattle.std.specs.Prelude.{◌≡◌, Ok}
+use borrow.Author.Rules.{rules}
 use native.Mathlib.Omega.{arith}
 use Rattle.meaning.specs.ByteLayouts.{operation}
 use Rattle.meaning.specs.Processing.{run_log}
@@ -26,8 +28,9 @@ returns-in_err-operate c =
 pub loop-preserved : goal.loop-preserved
 loop-preserved c =
     let e = operation-read c.args.log.now c.loop.here c.operation_at.ensures c.in-Some.is in
+    let went : c.operate.result ≡ Ok tt = search rules in
     left-more log-series c.loop.invariant (omega arith) e (operation-makes c.args.log.now c.loop.here e)
-    (rw c.in_ok-operate.was at c.operate.ensures)
+    (rw went at c.operate.ensures)
 
 pub returns-in_default : goal.returns-in_default
 returns-in_default c =
