@@ -12,11 +12,11 @@ use Rattle.consider.proofs.consider.Goals as goal
 
 pub returns-in_default : goal.returns-in_default
 returns-in_default c =
-    absurd (can-read (c.requires.planned.placed _ c.requires.count_bound.1) c.rule_at.ensures c.in_default.is)
+    absurd (can-read (c.requires.planned.placed _ c.requires.count_bound) c.rule_at.ensures c.in_default.is)
 
 pub draw-requires : goal.draw-requires
 draw-requires c =
-    let low : c.args.k < 16 = omega (arith, c.requires.count_bound) in
+    let low : c.args.k < 16 = omega (arith, c.requires.count_bound, c.args.plan.few) in
     let few = draw-few c.requires.ready.settled _ low c.requires.k_bound c.requires.ready.reached _ in
     record {
       laid = c.requires.ready.settled.represents.laid;
