@@ -11,9 +11,7 @@ pub first_triggered-requires : goal.first_triggered-requires
 first_triggered-requires c =
     record {
       laid = c.settle.ensures.laid;
-      count_bound = c.requires.count_bound;
       planned = c.requires.planned;
-      numbers = c.requires.numbers;
     }
 
 pub returns : goal.returns
