@@ -8,9 +8,7 @@ use Rattle.transaction.proofs.transact.Goals as goal
 pub process-ended-requires : goal.process-ended-requires
 process-ended-requires c =
     record {
-      count_bound = c.requires.accepts.few;
       planned = c.requires.accepts.planned;
-      numbers = c.requires.accepts.numbers;
       starts = starts c.requires.accepts c.load.ensures (search rules);
     }
 
