@@ -7,13 +7,6 @@ use Rattle.processing.proofs.next_rule.Goals as goal
 pub settle-requires : goal.settle-requires
 settle-requires c = midway-settleable c.requires.midway
 
-pub first_triggered-requires : goal.first_triggered-requires
-first_triggered-requires c =
-    record {
-      laid = c.settle.ensures.laid;
-      planned = c.requires.planned;
-    }
-
 pub returns : goal.returns
 returns c =
     looks (search rules) c.settle.ensures c.first_triggered.ensures
