@@ -17,8 +17,8 @@ use Rattle.words.specs.Words.{Bytes}
 use Rattle.book.specs.declared.Rule.{Rule as RuleStood}
 use Rattle.book.specs.Books.{condition_meant, actions_meant, rule_of, rule_meant, rule_or}
 use Rattle.plan.specs.declared.Plan.{Plan}
-use Rattle.plan.specs.Plans.{rules_in, Planned}
-use Rattle.plan.proofs.Listed.{read-listed}
+use Rattle.plan.specs.Plans.{rules_in, unlisted, Planned}
+use Rattle.plan.proofs.Standing.{read-listed}
 use Rattle.plan.proofs.Active.{low-own}
 use Rattle.room.specs.declared.Watch.{Watch}
 use Rattle.room.specs.Room.{END, Kept, watch_rule, live_rows, transition_in, waits_in}
@@ -47,14 +47,14 @@ pub record Drawn (xs ys s : List ℕ) (plan : Plan) (k : ℕ) (rule : RuleStood)
   pub bytes : Bytes ys
 
 pub drawn : {xs ys s : List ℕ} {plan : Plan} {k : ℕ} {read : Option (RuleStood × ℕ)} {rule : RuleStood} {after : ℕ} {w : Watch}
-    → (plan.count ≤ 16) × (k < plan.count) → Planned s plan.count plan → get_or plan.tables k 0 ≤ 3
-    → rule_or s read ≡ ByteLayouts.rule plan.count s (get_or plan.starts k 0) → read ≡ Some (rule, after)
+    → k < plan.count → Planned s plan.count plan → get_or plan.tables k 0 ≤ 3
+    → rule_or s read ≡ ByteLayouts.rule plan.count s (get_or plan.rules k unlisted).start → read ≡ Some (rule, after)
     → (w.table ≡ rule.head.table) × (w.triggers ≡ rule.head.triggers) × (w.columns ≡ rule.head.columns)
     → Drew xs ys k (watch_rule w) → Bytes ys → Drawn xs ys s plan k rule
-drawn {k = k} {w = w} low planned on e is of d bytes =
-    let here = planned.placed k low.1 in
+drawn {plan = plan} {k = k} {w = w} below planned on e is of d bytes =
+    let here = planned.placed k below in
     record {
-      low = omega arith;
+      low = omega (arith, below, plan.few);
       on = on;
       own = low-own here on ∙ ap (λ (r : Rule). r.table) (sym (read-listed here e is));
       listed = here.listed ∙ ap some (sym (read-listed here e is));

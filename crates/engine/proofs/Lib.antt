@@ -1,6 +1,5 @@
 mod Refused
 pub mod Judged
-pub mod Ordered
 pub mod Running
 pub mod Counted
 pub mod Sizes

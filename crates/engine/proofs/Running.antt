@@ -19,10 +19,12 @@ use Rattle.image.specs.Images as Images
 use Rattle.image.specs.Images.{image_or}
 use Rattle.image.specs.declared.Head.{Head}
 use Rattle.book.specs.Books as Books
+use Rattle.book.specs.declared.Frame.{Frame}
 use Rattle.transaction_log.specs.Log.{log_or, operations_meant}
+use Rattle.plan.specs.Numbers.{numbers_in}
 use Rattle.plan.specs.Plans.{Planned}
 use Rattle.plan.specs.declared.Plan.{Plan}
-use Rattle.trigger.specs.Triggers.{numbers_in, order_in}
+use Rattle.trigger.specs.Triggers.{order_in}
 use Rattle.processing.specs.declared.Ended.{Ended}
 use Rattle.transaction.specs.Transacts.{Accepts, HandsBack, ending_from}
 use Rattle.transaction.specs.declared.ReadOff.{ReadOff}
@@ -30,7 +32,6 @@ use Rattle.engine.specs.Answers.{refusal_meant, answer_meant, Runs}
 use Rattle.engine.specs.declared.Refusal.{Refusal}
 use Rattle.engine.specs.declared.Refusal.TheVariants.{Output, Room}
 use Rattle.engine.proofs.Judged.{with-order}
-use Rattle.engine.proofs.Ordered.{numbers-of-rules}
 
 -- ---- The image's judge
 
@@ -47,36 +48,33 @@ image-told s t is = rw is at t
 -- ---- A well-formed image
 
 -- what was read off image, book and log
-abbrev pub read_off : ℕ → ℕ → Plan → ℕ → ℕ → ReadOff
-read_off next rows plan limit operations =
-    record { next = next; rows = rows; plan = plan; limit = limit; operations = operations }
+abbrev pub read_off : Head → Frame → Plan → ℕ → ReadOff
+read_off head frame plan operations = record { image = head; book = frame; plan = plan; operations = operations }
 
-module _ (image book log : List ℕ) (next rows : ℕ) (i : Images.WellFormed image next rows) where
+module _ (image book log : List ℕ) (head : Head) (i : Images.WellFormed image head.next head.count) where
   pub book-refused : (r : EntryPoints.Refusal) → judge_book book ≡ refused_book r → verdict image book log ≡ refused r
   unfolding verdict with_book
   book-refused r e = rw (i.image, e)
 
-  -- and a well-formed book of n rules, with its plan, which has an order
-  module _ (limit n : ℕ) (plan : Plan) (b : Books.WellFormed book limit n) (p : Planned book n plan)
+  -- and a well-formed book, with its plan, which has an order
+  module _ (frame : Frame) (plan : Plan) (b : Books.WellFormed book frame.limit frame.count) (p : Planned book frame.count plan)
       {order : List ℕ} (found : plan.order ≡ Some order) where
     pub log-refused : (r : Option ℕ) → log_or log r ≡ read_all ByteLayouts.log log → r ≡ None
         → verdict image book log ≡ refused log_malformed
     unfolding verdict with_book
-    log-refused r e is = rw (i.image, with-order book limit n plan b p found, ← e, is)
+    log-refused r e is = rw (i.image, with-order book frame.limit frame.count plan b p found, ← e, is)
 
-    pub accepts : (operations : ℕ) → Accepts image book (read_off next rows plan limit operations)
+    pub accepts : (operations : ℕ) → Accepts image book (read_off head frame plan operations)
     accepts operations = record {
       rows = i;
-      few = rw p.count b.few;
       planned = subst (λ (m : ℕ). Planned book m plan) (sym p.count) p;
-      numbers = numbers-of-rules book limit n plan b p found;
     }
 
     pub log-accepted : (start : Image) → read_all ByteLayouts.image image ≡ some start → (r : Option ℕ) (operations : ℕ)
         → log_or log r ≡ read_all ByteLayouts.log log → r ≡ Some operations
-        → verdict image book log ≡ accepted start (ending_from book log (read_off next rows plan limit operations) start)
+        → verdict image book log ≡ accepted start (ending_from book log (read_off head frame plan operations) start)
     unfolding verdict with_book operations_meant ending_from numbers_in order_in
-    log-accepted start s r operations e is = rw (p.count, found, s, with-order book limit n plan b p found, ← e, is)
+    log-accepted start s r operations e is = rw (p.count, found, s, with-order book frame.limit frame.count plan b p found, ← e, is)
 
 -- ---- A run
 

@@ -59,10 +59,9 @@ pub fn run(
     }
     let operations = transaction_log::judge(log).ok_or(Refusal::Log)?;
     let a = ReadOff {
-        next: head.next,
-        rows: head.count,
+        image: head,
+        book: frame,
         plan,
-        limit: frame.limit,
         operations,
     };
     Ok(transaction::transact(image, book, log, a, out, room))

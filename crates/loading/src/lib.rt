@@ -9,6 +9,7 @@ ghost use Rattle.room.specs.Room.{LIVE, END, ROWS};
 ghost use Rattle.loading.specs.Loads.{Loads};
 ghost use Rattle.loading.specs.Steps.{NoneWaits, Emptied, RowLoaded};
 
+use image::Head;
 use slots::Slot;
 
 // Nothing waits for any rule.
@@ -57,16 +58,16 @@ fn load_row(room: &mut [u8], s: &[u8], at: usize)
     );
 }
 
-// A well-formed image, its next handle and its rows.
-pub fn load(room: &mut [u8], s: &[u8], next: u32, count: usize)
+// A well-formed image with this head.
+pub fn load(room: &mut [u8], s: &[u8], head: Head)
     requires in_bounds { END ≤ length room.old }
-    requires well_formed { WellFormed s.now next count }
+    requires well_formed { WellFormed s.now head.next head.count }
     ensures { Loads s.now room.old room.new }
 {
-    words::put_low32(room, room::NEXT, next);
+    words::put_low32(room, room::NEXT, head.next);
     empty_all(room);
     let mut here = image::FIRST;
-    for _ in 0..count {
+    for _ in 0..head.count {
         load_row(room, s, here);
         here += image::ROW;
     }

@@ -1,4 +1,5 @@
 pub mod Fits
 pub mod Active
+pub mod Ordered
 pub mod Planning
-pub mod Listed
+pub mod Standing

@@ -9,8 +9,9 @@ use Rattle.meaning.specs.ByteLayouts as ByteLayouts
 use Rattle.meaning.specs.Processing.TotalOrder.{total_order}
 use Rattle.words.specs.Words.{readable}
 use Rattle.order.specs.Order.{order_meant}
+use Rattle.plan.specs.declared.Listed.{Listed}
 use Rattle.plan.specs.declared.Plan.{Plan}
-use Rattle.plan.specs.declared.Outline.{Outline}
+use Rattle.plan.specs.declared.making.Outline.{Outline}
 
 -- the rules of a book of n
 abbrev pub rules_in : List ℕ → ℕ → List Rule
@@ -42,6 +43,10 @@ pub record Placed (s : List ℕ) (n k : ℕ) (start table : ℕ) : Type 0 where
   pub fits : rule.table ≤ 3
   pub is : table ≡ active_table rule
 
+-- what is listed past the last rule
+abbrev pub unlisted : Listed
+unlisted = record { start = 0; triggers = 0; columns = 0 }
+
 -- a rule looks out for its triggers, in its columns
 pub record Watched (rule : Rule) (g c : ℕ) : Type 0 where
   pub triggers : g ≡ rule.triggers
@@ -50,7 +55,8 @@ pub record Watched (rule : Rule) (g c : ℕ) : Type 0 where
 -- a plan of a book of n rules
 pub record Planned (s : List ℕ) (n : ℕ) (plan : Plan) : Type 0 where
   pub count : plan.count ≡ n
-  pub placed : (k : ℕ) → k < n → Placed s n k (get_or plan.starts k 0) (get_or plan.tables k 0)
-  pub watched : (k : ℕ) (b : k < n) → Watched (placed k b).rule (get_or plan.triggers k 0) (get_or plan.columns k 0)
+  pub placed : (k : ℕ) → k < n → Placed s n k (get_or plan.rules k unlisted).start (get_or plan.tables k 0)
+  pub watched : (k : ℕ) (b : k < n)
+      → Watched (placed k b).rule (get_or plan.rules k unlisted).triggers (get_or plan.rules k unlisted).columns
   pub absent : (k : ℕ) → n ≤ k → k < 16 → get_or plan.tables k 0 ≡ 5
   pub ordered : order_meant n plan.order ≡ total_order (rules_in s n)

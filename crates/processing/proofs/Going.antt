@@ -11,7 +11,6 @@ use Rattle.changes.specs.declared.Stop.{Stop}
 use Rattle.changes.specs.Steps.{Step}
 use Rattle.plan.specs.declared.Plan.{Plan}
 use Rattle.plan.specs.Plans.{Planned}
-use Rattle.trigger.specs.Triggers.{Numbers}
 use Rattle.consider.specs.Considers.{Considers}
 use Rattle.processing.specs.declared.Budget.{Budget}
 use Rattle.processing.specs.declared.Outcome.TheVariants as outcome
@@ -42,12 +41,12 @@ module _ {xs zs vs book : List ℕ} {plan : Plan} {limit : ℕ} {b : Budget} (g 
     going-limit h told =
         record { beyond = going-kept; from = g.rest vs _ (limit-ends t q (limit - b.count) b.count (omega arith) told) }
 
-    pub going-below : Numbers plan → k < plan.count
-    going-below numbers = rule-below t q numbers g.midway
+    pub going-below : k < plan.count
+    going-below = rule-below t q g.midway
 
-    module _ (planned : Planned book plan.count plan) (numbers : Numbers plan) where
+    module _ (planned : Planned book plan.count plan) where
       pub going-active : get_or plan.tables k 0 ≤ 3
-      going-active = rule-active t q planned numbers g.midway
+      going-active = rule-active t q planned g.midway
 
       module _ (some_left : b.count < limit) {ys : List ℕ} {step : Step} (c : Considers vs ys book plan k step) {n : ℕ}
           (counted : n ≡ b.count + 1) where
@@ -60,7 +59,7 @@ module _ {xs zs vs book : List ℕ} {plan : Plan} {limit : ℕ} {b : Budget} (g 
           beyond = kept;
           from =
               g.rest ys _
-              (turn-ends t q planned (going-below numbers) c (limit - b.count) b.count (omega arith) e (told.0, told.1 ∙ counted));
+              (turn-ends t q planned going-below c (limit - b.count) b.count (omega arith) e (told.0, told.1 ∙ counted));
         }
 
         pub going_on : step ≡ Ok tt → (after : Budget) → after.count ≡ n → after.limit ≡ b.limit → Going xs ys book plan limit after
@@ -71,9 +70,9 @@ module _ {xs zs vs book : List ℕ} {plan : Plan} {limit : ℕ} {b : Budget} (g 
               same = stays ∙ g.same;
               within = omega arith;
               beyond = kept;
-              midway = turn-midway t q planned (going-below numbers) c e g.midway;
+              midway = turn-midway t q planned going-below c e g.midway;
               rest = λ ws r from.
                   g.rest ws r
-                  (turn_on t q planned (going-below numbers) c e (limit - b.count) b.count (omega arith)
+                  (turn_on t q planned going-below c e (limit - b.count) b.count (omega arith)
                   (rw (now-left, now-made) at from));
             }

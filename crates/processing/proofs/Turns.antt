@@ -25,9 +25,10 @@ use Rattle.room.proofs.Marks.{seen-moved, reached-seen}
 use Rattle.changes.specs.declared.Stop.{Stop}
 use Rattle.changes.specs.Steps.{Step, Follows, goes_on, rolls_back, fails}
 use Rattle.plan.specs.declared.Plan.{Plan}
+use Rattle.plan.specs.Numbers.{numbers_in}
 use Rattle.plan.specs.Plans.{rules_in, Planned}
 use Rattle.plan.proofs.Active.{active-low}
-use Rattle.trigger.specs.Triggers.{next_meant, numbers_in, order_in, Numbers}
+use Rattle.trigger.specs.Triggers.{next_meant, order_in}
 use Rattle.consider.specs.Considers.{Considers}
 use Rattle.processing.specs.declared.Outcome.TheVariants as outcome
 use Rattle.processing.specs.declared.Ended.{Ended}
@@ -107,17 +108,17 @@ module _ {xs ys book : List ℕ} {plan : Plan} {found : Option ℕ} (t : Looks x
         }
 
     -- the rule that is triggered is a rule of the book
-    pub rule-below : Numbers plan → Midway xs book plan → k < plan.count
+    pub rule-below : Midway xs book plan → k < plan.count
     unfolding first_triggered order_in
-    rule-below numbers m =
-        first_below (triggered (rules_of book plan) m.state) (numbers_in plan.order) plan.count plan.count k numbers.rule
+    rule-below m =
+        first_below (triggered (rules_of book plan) m.state) (numbers_in plan.order) plan.count plan.count k plan.numbers.rule
         (first m.reaches)
 
     -- it is triggered, so it is active
-    pub rule-active : Planned book plan.count plan → Numbers plan → Midway xs book plan → get_or plan.tables k 0 ≤ 3
+    pub rule-active : Planned book plan.count plan → Midway xs book plan → get_or plan.tables k 0 ≤ 3
     unfolding first_triggered triggered
-    rule-active planned numbers m =
-        let here = planned.placed k (rule-below numbers m) in
+    rule-active planned m =
+        let here = planned.placed k (rule-below m) in
         let on = (first-is (triggered (rules_of book plan) m.state) (order_in plan) k (first m.reaches)).passes in
         let both : here.rule.active && any (λ p. wakes here.rule p.1) (waits m.state k) ≡ true = rw here.listed at on in
         active-low here (and-true here.rule.active (any (λ p. wakes here.rule p.1) (waits m.state k)) both).0

@@ -2,9 +2,8 @@
 // or the run ends.
 #![tactic(auto)]
 
-ghost use Rattle.std.specs.Prelude.{◌≡◌, ◌+◌, ◌≤◌, ◌<◌};
+ghost use Rattle.std.specs.Prelude.{◌≡◌, ◌+◌, ◌<◌};
 ghost use Rattle.plan.specs.Plans.{rules_in, Planned};
-ghost use Rattle.trigger.specs.Triggers.{Numbers};
 ghost use Rattle.processing.specs.Endings.{Starts, Processes, stopped};
 ghost use Rattle.processing.specs.Rest.{Midway, Looks, Steps};
 
@@ -72,9 +71,7 @@ fn ending(outcome: Outcome, count: usize) -> Ended
 
 // What was done joins what waits; then the first triggered rule in total order.
 fn next_rule(room: &mut [u8], book: &[u8], plan: Plan) -> Option<usize>
-    requires count_bound { plan.count ≤ 16 }
     requires planned { Planned book.now plan.count plan }
-    requires numbers { Numbers plan }
     requires midway { Midway room.old book.now plan }
     ensures { Looks room.old room.new book.now plan result }
 {
@@ -84,9 +81,7 @@ fn next_rule(room: &mut [u8], book: &[u8], plan: Plan) -> Option<usize>
 
 // Considers triggered rules, the first in total order each time.
 fn steps(room: &mut [u8], book: &[u8], plan: Plan, limit: usize) -> Ended
-    requires count_bound { plan.count ≤ 16 }
     requires planned { Planned book.now plan.count plan }
-    requires numbers { Numbers plan }
     requires midway { Midway room.old book.now plan }
     ensures { Steps room.old room.new book.now plan limit result }
 {
@@ -115,9 +110,7 @@ pub fn process(
     limit: usize,
     operations: usize,
 ) -> Ended
-    requires count_bound { plan.count ≤ 16 }
     requires planned { Planned book.now plan.count plan }
-    requires numbers { Numbers plan }
     requires starts { Starts room.old plan.tables (rules_in book.now plan.count) }
     ensures { Processes room.old room.new book.now log.now plan limit operations result }
 {

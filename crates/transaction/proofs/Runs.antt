@@ -86,7 +86,7 @@ planned-ended {plan = plan} p = record { stays = λ j k le few past. go j k le f
 module _ {image book : List ℕ} {a : ReadOff} (ok : Accepts image book a) where
   -- the start image
   start_image : Image
-  start_image = record { next = a.next; rows = ok.rows.rows }
+  start_image = record { next = a.image.next; rows = ok.rows.rows }
 
   module _ {xs ys : List ℕ} (loads : Loads image xs ys) (bytes : Bytes ys) where
     represents-start : (start : Image) → read_all ByteLayouts.image image ≡ some start
@@ -103,7 +103,7 @@ module _ {image book : List ℕ} {a : ReadOff} (ok : Accepts image book a) where
           represents = represents-start start_image ok.rows.image;
         }
 
-    module _ {zs log : List ℕ} {r : Ended} (p : Processes ys zs book log a.plan a.limit a.operations r) where
+    module _ {zs log : List ℕ} {r : Ended} (p : Processes ys zs book log a.plan a.book.limit a.operations r) where
       ends : (start : Image) → read_all ByteLayouts.image image ≡ some start → EndsAs zs (ending_from book log a start) r
       unfolding ending_from
       ends start e = p.ends start (image-sound image start e) (represents-start start e)

@@ -1,5 +1,5 @@
 -- What an accepted run answers and leaves.
-use Rattle.std.specs.Prelude.{◌≡◌, List, ℕ, ◌≤◌, replicate}
+use Rattle.std.specs.Prelude.{◌≡◌, List, ℕ, replicate}
 use Rattle.std.proofs.Math.Option.{some}
 use Rattle.meaning.specs.Base.{in_front_of}
 use Rattle.meaning.specs.Reading.{read_all}
@@ -11,22 +11,20 @@ use Rattle.meaning.specs.EntryPoints.{handed_back, working_room}
 use Rattle.words.specs.Words.{readable}
 use Rattle.image.specs.Images as Images
 use Rattle.plan.specs.Plans.{rules_in, Planned}
-use Rattle.trigger.specs.Triggers.{order_in, Numbers}
+use Rattle.trigger.specs.Triggers.{order_in}
 use Rattle.processing.specs.declared.Ended.{Ended}
 use Rattle.processing.specs.Endings.{outcome_meant}
 use Rattle.transaction.specs.declared.ReadOff.{ReadOff}
 
 -- image and book are well formed, and have what was read off them
 pub record Accepts (image book : List ℕ) (a : ReadOff) : Type 0 where
-  pub rows : Images.WellFormed image a.next a.rows
-  pub few : a.plan.count ≤ 16
+  pub rows : Images.WellFormed image a.image.next a.image.count
   pub planned : Planned book a.plan.count a.plan
-  pub numbers : Numbers a.plan
 
 -- the run that the specification says
 unfoldable pub ending_from : List ℕ → List ℕ → ReadOff → Image → Ending
 ending_from book log a start =
-    process (rules_in book a.plan.count) (order_in a.plan) a.limit (readable a.operations operation log 7) start
+    process (rules_in book a.plan.count) (order_in a.plan) a.book.limit (readable a.operations operation log 7) start
 
 -- outcome and count are those of an ending, and the image that it hands back stands at the front of the output
 pub record HandsBack (before after : List ℕ) (start : Image) (e : Ending) (r : Ended) : Type 0 where

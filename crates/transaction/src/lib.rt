@@ -14,10 +14,9 @@ use processing::{Ended, Outcome};
 // What was read off image, book and log when they were judged.
 #[derive(Clone, Copy)]
 pub struct ReadOff {
-    pub next: u32,
-    pub rows: usize,
+    pub image: image::Head,
+    pub book: book::Frame,
     pub plan: Plan,
-    pub limit: usize,
     pub operations: usize,
 }
 
@@ -62,8 +61,8 @@ pub fn transact(
     ensures { Transacts image.now book.now log.now a out.old out.new
         room.old room.new result }
 {
-    loading::load(room, image, a.next, a.rows);
-    let ended = processing::process(room, book, log, a.plan, a.limit, a.operations);
+    loading::load(room, image, a.image);
+    let ended = processing::process(room, book, log, a.plan, a.book.limit, a.operations);
     hand_back(out, image, room, ended.outcome);
     slots::clear(room, ROOM);
     ended

@@ -12,9 +12,10 @@ use lib.Seq.{take-nil, get_or-take}
 use Rattle.meaning.specs.Base.{first_with}
 use Rattle.meaning.specs.Processing.{State, triggered, first_triggered}
 use Rattle.plan.specs.declared.Plan.{Plan}
+use Rattle.plan.specs.Numbers.{numbers_in}
 use Rattle.plan.specs.Plans.{rules_in}
 use Rattle.room.specs.Represents.{Settled}
-use Rattle.trigger.specs.Triggers.{next_meant, numbers_in, order_in, Numbers, Triggers, TriggersFirst}
+use Rattle.trigger.specs.Triggers.{next_meant, order_in, Triggers, TriggersFirst}
 
 -- where there is no order, no rule is triggered
 pub walk-unordered : {xs s : List ℕ} {plan : Plan} → plan.order ≡ None → TriggersFirst xs s plan None
@@ -22,12 +23,12 @@ unfolding first_triggered next_meant order_in numbers_in
 walk-unordered {plan = plan} none = record { is = λ state rep. rw (none, take-nil plan.count) }
 
 -- a number in the order is that of a rule
-pub walk-below : {plan : Plan} {rules : List ℕ} (i k : ℕ) → plan.order ≡ Some rules → Numbers plan → i < length (take plan.count rules)
+pub walk-below : (plan : Plan) {rules : List ℕ} (i k : ℕ) → plan.order ≡ Some rules → i < length (take plan.count rules)
     → k ≡ get_or (take plan.count rules) i 0 → k < plan.count
 unfolding numbers_in
-walk-below {plan} {rules} i k ordered numbers more read =
+walk-below plan {rules} i k ordered more read =
     let low : i < plan.count = omega (arith, length-take plan.count rules) in
-    rw (read, get_or-take plan.count rules i 0 low) (rw ordered at (numbers.rule i low))
+    rw (read, get_or-take plan.count rules i 0 low) (rw ordered at (plan.numbers.rule i low))
 
 -- before a turn with the first i of the rules in an order passed
 pub record Walked (xs s : List ℕ) (plan : Plan) (order : List ℕ) (i : ℕ) : Type 0 where

@@ -11,7 +11,7 @@ use Rattle.meaning.specs.RowOperations.{Effect, NetEffect, nothing, inserted, de
 use Rattle.meaning.specs.Processing.{triggered, waits}
 use Rattle.meaning.specs.Processing.TransitionTables.{wakes, own_table, meets}
 use Rattle.plan.specs.declared.Plan.{Plan}
-use Rattle.plan.specs.Plans.{Placed, Watched}
+use Rattle.plan.specs.Plans.{unlisted, Placed, Watched}
 use Rattle.plan.proofs.Active.{low-active, low-own, high-idle}
 use Rattle.room.specs.declared.Watch.{Watch}
 use Rattle.room.specs.Room.{watch_rule, waits_in}
@@ -39,15 +39,15 @@ any_same r w a es = λ i. any (λ p. wakes-same r w a p.1 i) es
 
 -- ---- Whether rule k is triggered
 
-module _ (xs : List ℕ) {s : List ℕ} {plan : Plan} (k : ℕ) (here : Placed s plan.count k (get_or plan.starts k 0)
+module _ (xs : List ℕ) {s : List ℕ} {plan : Plan} (k : ℕ) (here : Placed s plan.count k (get_or plan.rules k unlisted).start
     (get_or plan.tables k 0)) where
   pub not-active : 3 < get_or plan.tables k 0 → Triggers xs s plan k false
   unfolding triggered
   not-active off = record { is = λ state rep. rw (here.listed, high-idle here off) }
 
-  pub active-woken : Watched here.rule (get_or plan.triggers k 0) (get_or plan.columns k 0) → k < 16 → get_or plan.tables k 0 ≤ 3
-      → (w : Watch) → w.table ≡ get_or plan.tables k 0 → w.triggers ≡ get_or plan.triggers k 0
-      → w.columns ≡ get_or plan.columns k 0 → {r : Bool} → r ≡ any (λ p. wakes (watch_rule w) p.1) (waits_in xs k)
+  pub active-woken : Watched here.rule (get_or plan.rules k unlisted).triggers (get_or plan.rules k unlisted).columns → k < 16 → get_or plan.tables k 0 ≤ 3
+      → (w : Watch) → w.table ≡ get_or plan.tables k 0 → w.triggers ≡ (get_or plan.rules k unlisted).triggers
+      → w.columns ≡ (get_or plan.rules k unlisted).columns → {r : Bool} → r ≡ any (λ p. wakes (watch_rule w) p.1) (waits_in xs k)
       → Triggers xs s plan k r
   unfolding triggered
   active-woken watched low on w table triggers columns asked =

@@ -1,27 +1,19 @@
 -- Which rule is triggered, of a book with a plan, by what waits in the working room.
-use Rattle.std.specs.Prelude.{◌≡◌, Bool, List, [], ℕ, ◌<◌, take, get_or, Option, Some, None}
+use Rattle.std.specs.Prelude.{◌≡◌, Bool, List, ℕ, take, Option}
 use Rattle.std.proofs.Math.Option.{Option as Maybe}
 use Rattle.meaning.specs.Processing.{State, triggered, first_triggered}
 use Rattle.words.specs.Words.{option_as}
 use Rattle.plan.specs.declared.Plan.{Plan}
+use Rattle.plan.specs.Numbers.{numbers_in}
 use Rattle.plan.specs.Plans.{rules_in}
 use Rattle.room.specs.Represents.{Settled}
 
 unfoldable pub next_meant : Option ℕ → Maybe ℕ
 next_meant = option_as (λ k. k)
 
--- the rules' numbers, none where there is no order
-unfoldable pub numbers_in : Option (List ℕ) → List ℕ
-numbers_in None = []
-numbers_in (Some rules) = rules
-
 -- the rules' numbers in total order, as the plan has them
 unfoldable pub order_in : Plan → List ℕ
 order_in plan = take plan.count (numbers_in plan.order)
-
--- the numbers in the order are those of rules of the book
-pub record Numbers (plan : Plan) : Type 0 where
-  pub rule : (i : ℕ) → i < plan.count → get_or (numbers_in plan.order) i 0 < plan.count
 
 -- for every state that the room represents, all settled, rule k is triggered or not
 pub record Triggers (xs s : List ℕ) (plan : Plan) (k : ℕ) (r : Bool) : Type 0 where

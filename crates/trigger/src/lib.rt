@@ -1,10 +1,10 @@
 // Whether a rule is triggered by what waits for it, and the first triggered rule in total order.
 #![tactic(auto)]
 
-ghost use Rattle.std.specs.Prelude.{◌≡◌, ◌≤◌, ◌<◌};
+ghost use Rattle.std.specs.Prelude.{◌≡◌, ◌<◌};
 ghost use Rattle.room.specs.Room.{Laid};
 ghost use Rattle.plan.specs.Plans.{Planned};
-ghost use Rattle.trigger.specs.Triggers.{Triggers, TriggersFirst, Numbers};
+ghost use Rattle.trigger.specs.Triggers.{Triggers, TriggersFirst};
 
 use book::Head;
 use plan::Plan;
@@ -24,7 +24,7 @@ pub fn watch(head: Head) -> Watch
 // Whether rule k is active and woken by what waits for it.
 fn is_triggered(room: &[u8], s: &[u8], plan: Plan, k: usize) -> bool
     requires laid { Laid room.now }
-    requires count_bound { (plan.count ≤ 16) × (k < plan.count) }
+    requires count_bound { k < plan.count }
     requires planned { Planned s.now plan.count plan }
     ensures { Triggers room.now s.now plan k result }
 {
@@ -36,8 +36,8 @@ fn is_triggered(room: &[u8], s: &[u8], plan: Plan, k: usize) -> bool
         k,
         Watch {
             table: words::wide(plan.tables[k]),
-            triggers: words::wide(plan.triggers[k]),
-            columns: words::wide(plan.columns[k]),
+            triggers: words::wide(plan.rules[k].triggers),
+            columns: words::wide(plan.rules[k].columns),
         },
     )
 }
@@ -45,9 +45,7 @@ fn is_triggered(room: &[u8], s: &[u8], plan: Plan, k: usize) -> bool
 // The first triggered rule in total order.
 pub fn first_triggered(room: &[u8], s: &[u8], plan: Plan) -> Option<usize>
     requires laid { Laid room.now }
-    requires count_bound { plan.count ≤ 16 }
     requires planned { Planned s.now plan.count plan }
-    requires numbers { Numbers plan }
     ensures { TriggersFirst room.now s.now plan result }
 {
     let rules = plan.order?;

@@ -6,20 +6,20 @@ use native.Mathlib.Omega.{arith}
 use Rattle.room.proofs.Live.{live-sorted}
 use Rattle.room.proofs.Draws.{draw-few}
 use Rattle.consider.proofs.Marked.{running-drawn}
-use Rattle.plan.proofs.Listed.{can-read}
+use Rattle.plan.proofs.Standing.{can-read}
 use Rattle.consider.proofs.Considered.{drawn, considers-acts, considers-none}
 use Rattle.consider.proofs.consider.Goals as goal
 
 pub returns-in_default : goal.returns-in_default
 returns-in_default c =
-    absurd (can-read (c.requires.planned.placed _ c.requires.count_bound.1) c.rule_at.ensures c.in_default.is)
+    absurd (can-read (c.requires.planned.placed _ c.requires.count_bound) c.rule_at.ensures c.in_default.is)
 
 pub draw-requires-clause-sorted : goal.draw-requires-clause-sorted
 draw-requires-clause-sorted c = live-sorted c.requires.ready.reached c.requires.ready.settled.represents
 
 pub draw-requires-clause-few : goal.draw-requires-clause-few
 draw-requires-clause-few c =
-    let low : c.args.k < 16 = omega (arith, c.requires.count_bound) in
+    let low : c.args.k < 16 = omega (arith, c.requires.count_bound, c.args.plan.few) in
     draw-few c.requires.ready.settled _ low c.requires.k_bound c.requires.ready.reached _
 
 pub returns-then-not-condition_holds : goal.returns-then-not-condition_holds

@@ -37,7 +37,7 @@ returns-in_err-frame c =
     refused c.judge-2.result c.from_residual-in_err-frame.result c.ok_or-2.ensures.value c.in_err-frame.was
     c.from_residual-in_err-frame.ensures.1 in
     let malformed = refused-malformed c.args.book.now _ c.judge-2.ensures.result_value is.0 in
-    rw is.1 (run-refused long roomy Book (book-refused c.args.image.now _ c.args.log.now _ _ i _ malformed))
+    rw is.1 (run-refused long roomy Book (book-refused c.args.image.now _ c.args.log.now _ i _ malformed))
 
 -- no order
 pub returns-then-is_none : goal.returns-then-is_none
@@ -49,7 +49,7 @@ returns-then-is_none c =
     let b = told c.args.book.now c.judge-2.ensures.told c.in_ok-frame.ensures.ok_part in
     let gone = none-there c.plan_of-plan.result.order c.is_none.ensures c.if-is_none.true in
     let cycle = without-order c.args.book.now _ _ c.plan_of-plan.result b c.plan_of-plan.ensures gone in
-    run-refused long roomy Cycle (book-refused c.args.image.now _ c.args.log.now _ _ i _ cycle)
+    run-refused long roomy Cycle (book-refused c.args.image.now _ c.args.log.now _ i _ cycle)
 
 -- a malformed log
 pub returns-in_err-operations : goal.returns-in_err-operations
@@ -64,7 +64,7 @@ returns-in_err-operations c =
     refused c.judge-3.result c.from_residual-in_err-operations.result c.ok_or-3.ensures.value c.in_err-operations.was
     c.from_residual-in_err-operations.ensures.1 in
     let malformed =
-    log-refused _ _ c.args.log.now _ _ i _ _ c.plan_of-plan.result b c.plan_of-plan.ensures order.1 _ c.judge-3.ensures is.0 in
+    log-refused _ _ c.args.log.now _ i _ c.plan_of-plan.result b c.plan_of-plan.ensures order.1 _ c.judge-3.ensures is.0 in
     rw is.1 (run-refused long roomy Log malformed)
 
 -- an accepted run
@@ -73,7 +73,7 @@ transact-requires-clause-accepts c =
     let i = image-told c.args.image.now c.judge.ensures.told c.in_ok-head.ensures.ok_part in
     let b = told c.args.book.now c.judge-2.ensures.told c.in_ok-frame.ensures.ok_part in
     let order = some-there c.plan_of-plan.result.order c.is_none.ensures c.if-is_none.false in
-    accepts _ _ c.args.log.now _ _ i _ _ c.plan_of-plan.result b c.plan_of-plan.ensures order.1 _
+    accepts _ _ c.args.log.now _ i _ c.plan_of-plan.result b c.plan_of-plan.ensures order.1 _
 
 pub returns : goal.returns
 returns c =
@@ -84,6 +84,6 @@ returns c =
     let order = some-there c.plan_of-plan.result.order c.is_none.ensures c.if-is_none.false in
     let log = c.in_ok-operations.ensures.ok_part in
     let v =
-    log-accepted _ _ c.args.log.now _ _ i _ _ c.plan_of-plan.result b c.plan_of-plan.ensures order.1 _ i.image _ _
+    log-accepted _ _ c.args.log.now _ i _ c.plan_of-plan.result b c.plan_of-plan.ensures order.1 _ i.image _ _
     c.judge-3.ensures log in
     run-accepted long roomy v (c.transact.ensures.hands_back _ i.image) c.transact.ensures.cleared

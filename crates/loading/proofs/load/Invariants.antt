@@ -3,4 +3,4 @@ use Rattle.loading.proofs.Rows.{Loading}
 use Rattle.loading.proofs.load.Given as goal
 
 abbrev pub invariant-loop : goal.invariant-loop
-invariant-loop l = Loading l.s l.initial.room l.room l.count l.counter l.here
+invariant-loop l = Loading l.s l.initial.room l.room l.fn.head.count l.counter l.here

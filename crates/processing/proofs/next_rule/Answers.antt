@@ -7,15 +7,6 @@ use Rattle.processing.proofs.next_rule.Goals as goal
 pub settle-requires : goal.settle-requires
 settle-requires c = midway-settleable c.requires.midway
 
-pub first_triggered-requires : goal.first_triggered-requires
-first_triggered-requires c =
-    record {
-      laid = c.settle.ensures.laid;
-      count_bound = c.requires.count_bound;
-      planned = c.requires.planned;
-      numbers = c.requires.numbers;
-    }
-
 pub returns : goal.returns
 returns c =
     looks (search rules) c.settle.ensures c.first_triggered.ensures

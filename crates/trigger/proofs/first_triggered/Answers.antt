@@ -9,10 +9,8 @@ pub loop-number-init : goal.loop-number-init
 loop-number-init c = walk_start c.in_ok-rules.was
 
 pub is_triggered-requires-clause-count_bound : goal.is_triggered-requires-clause-count_bound
-is_triggered-requires-clause-count_bound c = (
-  c.requires.count_bound,
-  walk-below _ _ c.in_ok-rules.was c.requires.numbers c.loop-number-test.true c.wide-k.ensures.0,
-)
+is_triggered-requires-clause-count_bound c =
+    walk-below c.args.plan _ _ c.in_ok-rules.was c.loop-number-test.true c.wide-k.ensures.0
 
 pub returns-then-is_triggered : goal.returns-then-is_triggered
 returns-then-is_triggered c =

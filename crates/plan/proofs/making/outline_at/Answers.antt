@@ -1,8 +1,8 @@
--- `plan::outline_at` meets its contract: what the decoder read is the rule, whose head is that rule's and fits.
+-- `plan::making::outline_at` meets its contract: what the decoder read is the rule, whose head is that rule's and fits.
 use Rattle.book.specs.Books.{rule_meant, rule_of}
 use Rattle.plan.proofs.Fits.{rule_fits}
 use Rattle.plan.proofs.Planning.{rule-read, outlined}
-use Rattle.plan.proofs.outline_at.Goals as goal
+use Rattle.plan.proofs.making.outline_at.Goals as goal
 
 pub outline_of-requires : goal.outline_of-requires
 unfolding rule_meant rule_of
