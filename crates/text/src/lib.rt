@@ -1,16 +1,38 @@
-// The program's text, from the bytes of its standard input: everything that the program decides.
+// The program's text, from the bytes of its standard input: everything that the program decides; and how those bytes are read.
 #![tactic(auto)]
 
-ghost use Rattle.std.specs.Prelude.{◌≡◌, ◌+◌, ◌≤◌, ◌<◌, length, Ok};
+ghost use Rattle.std.specs.Prelude.{◌≡◌, ◌+◌, ◌≤◌, ◌<◌, length, take, Ok, IfOk};
+ghost use Rattle.std.specs.Io.{ReadsAtMost};
+ghost use Rattle.std.specs.Io.KnownBytes.{Consumes, IsAtEnd};
 ghost use Rattle.meaning.specs.EntryPoints.{first_part};
 ghost use Rattle.text.specs.Tells.{Telling, PutsLines};
 ghost use Rattle.text.specs.Texts.{Texts};
 
 use engine::Refusal;
 use processing::Ended;
+use std::io;
+use std::io::Read;
 
 // An input has at most 16,384 bytes.
 pub const INPUT: usize = 16384;
+
+// Reads until the bytes that are lent are full or the input ends, and answers how many it read. Of the library, `read_exact` refuses an
+// input that ends before, `read_to_end` needs a heap, and `io::copy` does not say that what it copied fits.
+pub fn fill<R: Read>(from: &mut R, to: &mut [u8]) -> io::Result<usize>
+    ensures bound { ReadsAtMost result to.new }
+    ensures bytes { IfOk result (λ n. Consumes (R.remaining from.old) (R.remaining from.new) (take n to.new)) }
+    ensures end { IfOk result (λ n. n < length to.new → IsAtEnd (R.remaining from.new)) }
+{
+    let mut done = 0;
+    while done < to.len() {
+        let n = from.read(&mut to[done..])?;
+        if n == 0 {
+            return Ok(done);
+        }
+        done += n;
+    }
+    Ok(done)
+}
 
 // Where the part at the front ends: after as many bytes as its length counts, or with all that is left.
 fn part_end(s: &[u8]) -> usize

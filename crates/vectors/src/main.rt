@@ -2,29 +2,12 @@
 // it prints the name and what the program says of the file's bytes. What must be printed stands in `stdout`.
 #![tactic(auto)]
 
-ghost use Rattle.std.specs.Io.{ReadsAtMost};
-
 use std::io::{Read, Write};
 use std::rt::Files;
 use std::{env, fs, io};
 
 // A byte more than an input may have, so that a longer one shows.
-const INPUT: usize = 16385;
-
-// Reads until the bytes that are lent are full or the file ends, and answers how many it read.
-fn fill(from: &mut impl Read, to: &mut [u8]) -> io::Result<usize>
-    ensures { ReadsAtMost result to.new }
-{
-    let mut done = 0;
-    while done < to.len() {
-        let n = from.read(&mut to[done..])?;
-        if n == 0 {
-            break;
-        }
-        done += n;
-    }
-    Ok(done)
-}
+const INPUT: usize = text::INPUT + 1;
 
 fn print_answer(rt: &impl Print, input: &[u8]) -> io::Result<()> {
     let mut image = [0u8; 1355];
@@ -36,7 +19,7 @@ fn print_answer(rt: &impl Print, input: &[u8]) -> io::Result<()> {
 
 fn print_answer_on(rt: &impl Print, file: &mut impl Read) -> io::Result<()> {
     let mut input = [0u8; INPUT];
-    let n = fill(file, &mut input)?;
+    let n = text::fill(file, &mut input)?;
     print_answer(rt, &input[..n])
 }
 
