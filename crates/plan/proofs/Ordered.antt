@@ -13,7 +13,6 @@ use Rattle.meaning.specs.Covers.{Rule}
 use Rattle.meaning.specs.Processing.TotalOrder.{total_order}
 use Rattle.meaning.proofs.Lists.{has, eqb-self, or_left, or_right}
 use Rattle.meaning.proofs.Orders.{total-order}
-use Rattle.words.specs.Words.{option_as}
 use Rattle.order.specs.Order.{order_meant}
 use Rattle.plan.specs.Numbers.{numbers_in, Numbers}
 
@@ -34,6 +33,6 @@ module _ (rules : List Rule) {n : ℕ} (counted : length rules ≡ n) where
           rw (← get_or-take n order i 0 h) (each_below (take n order) n only (omega arith) i)
 
   pub numbers-of-rules : (order : Option (List ℕ)) → order_meant n order ≡ total_order rules → Numbers n order
-  unfolding numbers_in order_meant option_as
+  unfolding numbers_in order_meant
   numbers-of-rules None is = record { rule = λ i h. omega (arith, h) }
   numbers-of-rules (Some order) is = numbers-found order (sym is)
