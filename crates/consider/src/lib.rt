@@ -27,12 +27,12 @@ fn condition_holds(room: &[u8], book: &[u8], triggers: usize, c: Option<Query>) 
 }
 
 // Active rule k of a book with a plan.
-pub fn consider(room: &mut [u8], book: &[u8], plan: Plan, k: usize) -> Result<(), Stop>
-    requires ready { Ready room.old plan.tables }
-    requires count_bound { k < plan.count }
-    requires planned { Planned book.now plan.count plan }
-    requires k_bound { get_or plan.tables k 0 ≤ 3 }
-    ensures { Considers room.old room.new book.now plan k result }
+pub fn consider(room: &mut [u8], book: &[u8], plan: &Plan, k: usize) -> Result<(), Stop>
+    requires ready { Ready room.old plan.now.tables }
+    requires count_bound { k < plan.now.count }
+    requires planned { Planned book.now plan.now.count plan.now }
+    requires k_bound { get_or plan.now.tables k 0 ≤ 3 }
+    ensures { Considers room.old room.new book.now plan.now k result }
 {
     let Some((rule, _next)) = book::rule_at(book, plan.count, plan.rules[k].start) else {
         return Ok(());

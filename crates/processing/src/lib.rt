@@ -70,22 +70,23 @@ fn ending(outcome: Outcome, count: usize) -> Ended
 }
 
 // What was done joins what waits; then the first triggered rule in total order.
-fn next_rule(room: &mut [u8], book: &[u8], plan: Plan) -> Option<usize>
-    requires planned { Planned book.now plan.count plan }
-    requires midway { Midway room.old book.now plan }
-    ensures { Looks room.old room.new book.now plan result }
+fn next_rule(room: &mut [u8], book: &[u8], plan: &Plan) -> Option<usize>
+    requires planned { Planned book.now plan.now.count plan.now }
+    requires midway { Midway room.old book.now plan.now }
+    ensures { Looks room.old room.new book.now plan.now result }
 {
     effects::settle(room, plan.tables);
     trigger::first_triggered(room, book, plan)
 }
 
 // Considers triggered rules, the first in total order each time.
-fn steps(room: &mut [u8], book: &[u8], plan: Plan, limit: usize) -> Ended
-    requires planned { Planned book.now plan.count plan }
-    requires midway { Midway room.old book.now plan }
-    ensures { Steps room.old room.new book.now plan limit result }
+fn steps(room: &mut [u8], book: &[u8], plan: &Plan, limit: usize) -> Ended
+    requires planned { Planned book.now plan.now.count plan.now }
+    requires midway { Midway room.old book.now plan.now }
+    ensures { Steps room.old room.new book.now plan.now limit result }
 {
     let mut b = Budget { count: 0, limit };
+    // document 01: count and limit travel as one small record, spent at each consideration; so this is no `for`
     while b.count < b.limit {
         let Some(k) = next_rule(room, book, plan) else {
             return ending(Outcome::Commit, b.count);
@@ -106,13 +107,13 @@ pub fn process(
     room: &mut [u8],
     book: &[u8],
     log: &[u8],
-    plan: Plan,
+    plan: &Plan,
     limit: usize,
     operations: usize,
 ) -> Ended
-    requires planned { Planned book.now plan.count plan }
-    requires starts { Starts room.old plan.tables (rules_in book.now plan.count) }
-    ensures { Processes room.old room.new book.now log.now plan limit operations result }
+    requires planned { Planned book.now plan.now.count plan.now }
+    requires starts { Starts room.old plan.now.tables (rules_in book.now plan.now.count) }
+    ensures { Processes room.old room.new book.now log.now plan.now limit operations result }
 {
     if let Err(stop) = series::run_log(room, log, operations) {
         return ending(stop.into(), 0);

@@ -62,7 +62,7 @@ pub fn transact(
         room.old room.new result }
 {
     loading::load(room, image, a.image);
-    let ended = processing::process(room, book, log, a.plan, a.book.limit, a.operations);
+    let ended = processing::process(room, book, log, &a.plan, a.book.limit, a.operations);
     hand_back(out, image, room, ended.outcome);
     slots::clear(room, ROOM);
     ended

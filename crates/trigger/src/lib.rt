@@ -22,11 +22,11 @@ pub fn watch(head: Head) -> Watch
 }
 
 // Whether rule k is active and woken by what waits for it.
-fn is_triggered(room: &[u8], s: &[u8], plan: Plan, k: usize) -> bool
+fn is_triggered(room: &[u8], s: &[u8], plan: &Plan, k: usize) -> bool
     requires laid { Laid room.now }
-    requires count_bound { k < plan.count }
-    requires planned { Planned s.now plan.count plan }
-    ensures { Triggers room.now s.now plan k result }
+    requires count_bound { k < plan.now.count }
+    requires planned { Planned s.now plan.now.count plan.now }
+    ensures { Triggers room.now s.now plan.now k result }
 {
     if 3 < plan.tables[k] {
         return false;
@@ -43,10 +43,10 @@ fn is_triggered(room: &[u8], s: &[u8], plan: Plan, k: usize) -> bool
 }
 
 // The first triggered rule in total order.
-pub fn first_triggered(room: &[u8], s: &[u8], plan: Plan) -> Option<usize>
+pub fn first_triggered(room: &[u8], s: &[u8], plan: &Plan) -> Option<usize>
     requires laid { Laid room.now }
-    requires planned { Planned s.now plan.count plan }
-    ensures { TriggersFirst room.now s.now plan result }
+    requires planned { Planned s.now plan.now.count plan.now }
+    ensures { TriggersFirst room.now s.now plan.now result }
 {
     let rules = plan.order?;
     for &number in &rules[..plan.count] {

@@ -19,7 +19,7 @@ draw-requires-clause-sorted c = live-sorted c.requires.ready.reached c.requires.
 
 pub draw-requires-clause-few : goal.draw-requires-clause-few
 draw-requires-clause-few c =
-    let low : c.args.k < 16 = omega (arith, c.requires.count_bound, c.args.plan.few) in
+    let low : c.args.k < 16 = omega (arith, c.requires.count_bound, c.args.plan.now.few) in
     draw-few c.requires.ready.settled _ low c.requires.k_bound c.requires.ready.reached _
 
 pub returns-then-not-condition_holds : goal.returns-then-not-condition_holds

@@ -12,7 +12,7 @@ returns-in-Err c =
 
 pub steps-requires-clause-midway : goal.steps-requires-clause-midway
 steps-requires-clause-midway c =
-    log-midway c.args.book.now c.args.log.now c.args.plan c.args.operations c.run_log.ensures c.in_default.is c.requires.starts
+    log-midway c.args.book.now c.args.log.now c.args.plan.now c.args.operations c.run_log.ensures c.in_default.is c.requires.starts
 
 pub returns : goal.returns
 returns c = log-on _ _ _ _ c.run_log.ensures c.in_default.is c.steps.ensures

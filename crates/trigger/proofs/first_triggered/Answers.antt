@@ -10,7 +10,7 @@ loop-number-init c = walk_start c.in_ok-rules.was
 
 pub is_triggered-requires-clause-count_bound : goal.is_triggered-requires-clause-count_bound
 is_triggered-requires-clause-count_bound c =
-    walk-below c.args.plan _ _ c.in_ok-rules.was c.loop-number-test.true c.wide-k.ensures.0
+    walk-below c.args.plan.now _ _ c.in_ok-rules.was c.loop-number-test.true c.wide-k.ensures.0
 
 pub returns-then-is_triggered : goal.returns-then-is_triggered
 returns-then-is_triggered c =

@@ -9,5 +9,5 @@ returns-then-plan-k-gt3 c =
 
 pub returns : goal.returns
 returns c =
-    active-woken _ _ (c.requires.planned.placed _ c.requires.count_bound) (c.requires.planned.watched _ c.requires.count_bound) (omega (arith, c.requires.count_bound, c.args.plan.few)) c.if-plan-k-gt3.false _
+    active-woken _ _ (c.requires.planned.placed _ c.requires.count_bound) (c.requires.planned.watched _ c.requires.count_bound) (omega (arith, c.requires.count_bound, c.args.plan.now.few)) c.if-plan-k-gt3.false _
     c.wide.ensures.0 c.wide-2.ensures.0 c.wide-3.ensures.0 c.triggered.ensures
