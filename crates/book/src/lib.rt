@@ -78,6 +78,7 @@ pub const RULES: usize = 16;
 
 pub const LIMIT: usize = 1000;
 
+// As the log's insertion, but an action: three lines over a type of its own.
 #[tactic(auto, using(fields::proofs::Laws::values_in_a_row), unfolding(meaning::specs::ByteLayouts::insert_row, meaning::specs::ByteLayouts::table))]
 fn insert_row(s: &[u8], triggers: usize, at: usize) -> Option<(Action, usize)>
     ensures { action_or s.now triggers result ≡ ByteLayouts.insert_row triggers s.now at }

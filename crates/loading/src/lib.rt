@@ -35,7 +35,7 @@ fn empty_all(room: &mut [u8])
     room::STRETCH.empty(room);
 }
 
-// The row of an image at a place joins the live rows.
+// The row of an image at a place joins the live rows. Both types are of crates below, so this is no `impl From`.
 fn load_row(room: &mut [u8], s: &[u8], at: usize)
     requires stands { Stands LIVE ROWS room.old }
     requires room_bound { low32_at room.old LIVE < ROWS }

@@ -18,6 +18,7 @@ struct Outline {
     next: usize,
 }
 
+// No `impl From`: the place where the rule ends comes from beside it.
 fn outline_of(rule: Rule, next: usize) -> Outline
     requires { (rule.head.table ≤ 3) × (rule.head.triggers ≤ 7) × (rule.head.columns ≤ 15) }
     ensures { OutlineOf (head_rule rule.head) next result }

@@ -148,7 +148,7 @@ impl<const MOST: usize> Table<MOST> {
         words::low32(room, self.at(i))
     }
 
-    // The same for its kind.
+    // The same for its kind. This, its mask and its table differ in a divisor, but each promises a field of its own.
     pub fn kind_at(self, room: &[u8], i: usize) -> usize
         requires stands { Stands self.base MOST room.now }
         requires i_bound { i < low32_at room.now self.base }
@@ -335,7 +335,7 @@ impl<const MOST: usize> Table<MOST> {
         words::put_low32(room, self.base, (end + 1) as u32);
     }
 
-    // The same, with the slot's place in the other table as its kind.
+    // The same, with the slot's place in the other table as its kind: both copy, and differ in the word that they write beside it.
     pub fn push_place<const HELD: usize>(self, room: &mut [u8], from: Table<HELD>, i: usize)
         requires stands { Stands self.base MOST room.old }
         requires base_bound { low32_at room.old self.base < MOST }

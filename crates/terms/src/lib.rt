@@ -9,7 +9,8 @@ ghost use Rattle.terms.specs.Terms.{source_fits, source_or, match_meant, term_or
 
 use words::Layout;
 
-// A term: a column against a constant or a column, or a match whose pairs stand at a place.
+// A term: a column against a constant or a column, or a match whose pairs stand at a place. Comparison and row source by their numbers, as in
+// `words::compare` and `Query`.
 #[derive(Clone, Copy)]
 pub enum Term {
     Constant {

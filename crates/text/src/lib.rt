@@ -49,7 +49,8 @@ fn part_end(s: &[u8]) -> usize
     4 + told
 }
 
-// The lines of a well-formed image that a run wrote, and of the outcome and count that it answered.
+// The lines of a well-formed image that a run wrote, and of the outcome and count that it answered. What is required rules out an image that
+// cannot be read, and 0 stands where the type wants an answer.
 fn put_ran(out: &mut [u8], ended: Ended, image: &[u8]) -> usize
     requires in_bounds { 16384 ≤ length out.old }
     requires telling { Telling image.now (Ok ended) }

@@ -21,6 +21,7 @@ use rows::Reason;
 use slots::Slot;
 use terms::Expression;
 
+// By hand: the contract names the definition, which a derived `Default` would not.
 fn blank() -> Slot
     ensures { result ≡ Slots.blank }
 {
