@@ -8,8 +8,8 @@ use native.Mathlib.Omega.{arith}
 use borrow.Author.Tests.{le-leb, lt-leb, leb-true, leb-false, lt-ltb, le-ltb, ltb-true, ltb-false}
 use lib.IntN.{ℤ}
 use lib.Dec.{leb, ltb}
-use lib.ListN.{length, set, take, drop, length-append, length-drop, length-set}
-use lib.Seq.{sets, sets-eq, length-sets, take-append_seam, take_at, drop_at, drop-length, drop-append-add, drop-drop}
+use lib.ListN.{length, set, take, drop, length-append, length-drop}
+use lib.Seq.{sets, sets-eq, take-append_seam, take_at, drop_at, drop-length, drop-append-add, drop-drop}
 use borrow.Author.Rules.{part_to_end}
 use borrow.Rule.Slice.PartMut.{put_mid, Post-is}
 use Rattle.meaning.specs.Base.{in_front_of}
@@ -234,10 +234,6 @@ put_on : (xs vs ys : List ℕ) (at : ℕ) {l m : List ℕ} → l ≡ in_front_of
     → m ≡ in_front_of (xs ++ vs) ys
 put_on xs vs ys at e f g h = f ∙ rw e (in-front-more xs vs ys at g h)
 
--- stores keep the length
-pub put-length : (ys vs : List ℕ) (at : ℕ) {l : List ℕ} → l ≡ sets ys at vs → length l ≡ length ys
-put-length ys vs at e = rw e (length-sets ys at vs)
-
 -- the stores of what stands before the rows
 pub put-head : (ys : List ℕ) (n next count : ℕ) {l m o : List ℕ} → 11 ≤ length ys → l ≡ sets ys 0 (bytes4 n)
     → m ≡ sets (set l 4 1) 5 (bytes4 next) → o ≡ sets m 9 (bytes2 count) → o ≡ in_front_of (head_bytes n next count) ys
@@ -255,22 +251,7 @@ unfolding row_bytes row_meant value_bytes bytes4
 row_words r f0 f1 f2 f3 =
     rw (unsigned_signed r.v0 f0, unsigned_signed r.v1 f1, unsigned_signed r.v2 f2, unsigned_signed r.v3 f3)
 
--- the stores of a row, each of which keeps the length
-module _ (ys : List ℕ) (r : Row) (t : ℕ) where
-  pub row-kept1 : {l : List ℕ} → l ≡ sets ys 0 (bytes4 r.handle) → length (set l 4 t) ≡ length ys
-  row-kept1 {l} e1 = length-set l 4 t ∙ put-length ys (bytes4 r.handle) 0 e1
-
-  pub row-kept2 : {l m : List ℕ} → l ≡ sets ys 0 (bytes4 r.handle) → m ≡ sets (set l 4 t) 5 (bytes4 r.v0) → length m ≡ length ys
-  row-kept2 {l} e1 e2 = put-length (set l 4 t) (bytes4 r.v0) 5 e2 ∙ row-kept1 e1
-
-  pub row-kept3 : {l m n : List ℕ} → l ≡ sets ys 0 (bytes4 r.handle) → m ≡ sets (set l 4 t) 5 (bytes4 r.v0)
-      → n ≡ sets m 9 (bytes4 r.v1) → length n ≡ length ys
-  row-kept3 {m = m} e1 e2 e3 = put-length m (bytes4 r.v1) 9 e3 ∙ row-kept2 e1 e2
-
-  pub row-kept4 : {l m n o : List ℕ} → l ≡ sets ys 0 (bytes4 r.handle) → m ≡ sets (set l 4 t) 5 (bytes4 r.v0)
-      → n ≡ sets m 9 (bytes4 r.v1) → o ≡ sets n 13 (bytes4 r.v2) → length o ≡ length ys
-  row-kept4 {n = n} e1 e2 e3 e4 = put-length n (bytes4 r.v2) 13 e4 ∙ row-kept3 e1 e2 e3
-
+-- the stores of a row
 pub put-row : (ys : List ℕ) (r : Row) (t : ℕ) {l m n o p : List ℕ} → 21 ≤ length ys → t ≡ r.table
     → r.v0 < 4294967296 → r.v1 < 4294967296 → r.v2 < 4294967296 → r.v3 < 4294967296
     → l ≡ sets ys 0 (bytes4 r.handle) → m ≡ sets (set l 4 t) 5 (bytes4 r.v0) → n ≡ sets m 9 (bytes4 r.v1)

@@ -19,14 +19,6 @@ returns-then-not-has c =
     let short = leb-false (c.args.at + c.args.n * 4) (length c.args.s.now) (sym c.has.ensures ∙ c.if-not-has.true) in
     sym (values-end-short c.args.s.now bytes c.args.n c.args.at (search rules) short)
 
-pub overflow_add-result : goal.overflow_add-result
-overflow_add-result c =
-    elim c.else-n-ne0.branch [
-      | else-n-ne0-via-then-n-ne0+else-not-has w ↦
-          omega (arith, leb-true (c.args.at + c.args.n * 4) (length c.args.s.now) (sym w.has.ensures ∙ w.if-not-has.false))
-      | else-n-ne0-via-else-n-ne0 w ↦ let none = w.if-n-ne0.false in search rules
-    ]
-
 pub returns : goal.returns
 returns c =
     let bytes : Bytes c.args.s.now = λ i. (c.type_inv.s i).fits in

@@ -6,18 +6,12 @@ use native.Mathlib.Omega.{arith}
 use Prim.Native.Nat.{◌+◌}
 use Rattle.words.specs.Words.{word32_at}
 use Rattle.fields.specs.Fields.{well_framed}
-use Rattle.fields.proofs.Laws.{passed, failed, stands}
+use Rattle.fields.proofs.Laws.{passed, failed}
 use Rattle.fields.proofs.well_framed.Goals as goal
 
 pub returns-then-not-has : goal.returns-then-not-has
 unfolding well_framed
 returns-then-not-has c = rw (failed c.has.ensures c.if-not-has.true)
-
-pub overflow_sub-rest : goal.overflow_sub-rest
-overflow_sub-rest c = stands c.args.s.now 4 c.has.ensures c.if-not-has.false
-
-pub word32-requires : goal.word32-requires
-word32-requires c = stands c.args.s.now 4 c.has.ensures c.if-not-has.false
 
 pub returns-then-word32-rest : goal.returns-then-word32-rest
 unfolding well_framed

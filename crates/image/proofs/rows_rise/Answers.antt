@@ -1,7 +1,6 @@
 -- `image::rows_rise` meets its contract. The loop's invariant: what is asked of all the rows is what is asked of those that are left from
 -- here on, above the last handle.
-use borrow.Author.Rules.{rules}
-use borrow.Author.Tests.{leb-true, leb-false}
+use borrow.Author.Tests.{leb-false}
 use lib.ListN.{length}
 use mathlib.Core.Path.{◌≡◌, ◌∙◌, sym, ap}
 use native.Mathlib.Omega.{arith}
@@ -20,9 +19,6 @@ returns-then-not-has c =
     let ends = leb-false (c.loop.here + 21) (length c.args.s.now) (sym c.has.ensures ∙ c.if-not-has.true) in
     let is = row-short c.args.s.now bytes c.loop.here ends in
     sym (c.loop.invariant ∙ rise-bad left c.args.s.now c.loop.here c.loop.last c.args.high (omega arith) is)
-
-pub row_at-r-requires : goal.row_at-r-requires
-row_at-r-requires c = leb-true (c.loop.here + 21) (length c.args.s.now) (sym c.has.ensures ∙ c.if-not-has.false)
 
 pub returns-then-r-gt3 : goal.returns-then-r-gt3
 returns-then-r-gt3 c =
@@ -47,11 +43,6 @@ returns-then-high-r c =
     let is = c.row_at-r.ensures ∙ row-proper c.row_at-r.result (c.loop.here + 21) c.if-r-gt3.false in
     let high = rise-high left c.args.s.now c.loop.here c.loop.last c.args.high r (c.loop.here + 21) (omega arith) is in
     sym (c.loop.invariant ∙ high (omega (arith, c.if-high-r.true)))
-
-pub overflow_add-here : goal.overflow_add-here
-overflow_add-here c =
-    let fits = leb-true (c.loop.here + 21) (length c.args.s.now) (sym c.has.ensures ∙ c.if-not-has.false) in
-    search rules
 
 pub loop-preserved : goal.loop-preserved
 unfolding row_meant
