@@ -99,7 +99,7 @@ module _ {xs : List ℕ} (run : Running xs) (h : ℕ) where
       let now = run.represents in
       fails-after now.laid nothing-aside now.bytes NoSuchRow (λ tables s p. rw (← p.rows, is-missing e))
 
-  module _ {mask k i : ℕ} (vs : List ℤ) (new : Slot) (small : mask ≤ 15) (narrowed : mask ≤ 255 → k ≡ mask)
+  module _ {mask k i : ℕ} (vs : List ℤ) (new : Slot) (small : mask ≤ 15) (narrowed : mask < 256 → k ≡ mask)
       (found : find_in h (table_at xs LIVE) ≡ Some i)
       (is : row_meant new ≡ updated_row mask vs (row_meant (get_or (table_at xs LIVE) i blank))) where
     only : OnlyIn mask (row_meant (get_or (table_at xs LIVE) i blank)) (row_meant new)

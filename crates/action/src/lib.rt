@@ -60,7 +60,7 @@ fn update_one(
     };
     let old = room::LIVE.slot_at(room, i);
     let new = working::with_values(log, values, mask, old);
-    rows::update_row(room, i, changes::narrow(mask), new)?;
+    rows::update_row(room, i, words::low_byte(mask), new)?;
     Ok(())
 }
 

@@ -182,7 +182,7 @@ module _ {xs zs : List ℕ} {table n i : ℕ} (run : Running xs) (t : table ≤ 
   inserting-within b = omega (arith, table-length zs WORKED, table-length xs WORKED, ap length worked_same)
 
   module _ (some : i < n) {e : Slot} {k : ℕ} (read : e ≡ get_or (table_at zs WORKED) i blank)
-      (narrowed : table ≤ 255 → k ≡ table) where
+      (narrowed : table < 256 → k ≡ table) where
     proper : Proper (row_meant (inserted_slot zs k e))
     proper =
         let q : k ≡ table = narrowed (omega arith) in

@@ -320,7 +320,7 @@ module _ {xs zs : List ℕ} {mask n i : ℕ} (run : Running xs) (small : mask �
   pub updating-within : i < n → i < low32_at zs WORKED
   updating-within b = omega (arith, table-length zs WORKED, table-length xs WORKED, ap length (worked_same run inv))
 
-  module _ (some : i < n) {e : Slot} {k : ℕ} (read : e ≡ get_or (table_at zs WORKED) i blank) (narrowed : mask ≤ 255 → k ≡ mask) where
+  module _ (some : i < n) {e : Slot} {k : ℕ} (read : e ≡ get_or (table_at zs WORKED) i blank) (narrowed : mask < 256 → k ≡ mask) where
     within : i < low32_at xs CHOSEN
     within = omega (arith, sized)
 

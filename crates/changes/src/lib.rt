@@ -27,13 +27,6 @@ impl From<Reason> for Stop {
     }
 }
 
-// The low byte of a number.
-pub fn narrow(x: usize) -> u8
-    ensures { x ≤ 255 → result ≡ x }
-{
-    (x % 256) as u8
-}
-
 // Inserts a row for each that was worked out.
 pub fn insert_all(room: &mut [u8], table: usize) -> Result<(), Stop>
     requires running { Running room.old }
@@ -44,7 +37,7 @@ pub fn insert_all(room: &mut [u8], table: usize) -> Result<(), Stop>
     rows::space_for(room, n)?;
     for i in 0..n {
         let e = room::WORKED.slot_at(room, i);
-        rows::insert_row(room, narrow(table), e);
+        rows::insert_row(room, words::low_byte(table), e);
     }
     Ok(())
 }
@@ -72,6 +65,6 @@ pub fn update_all(room: &mut [u8], mask: usize)
 {
     for i in 0..room::WORKED.size(room) {
         let e = room::WORKED.slot_at(room, i);
-        rows::update_row(room, words::wide(e.kind), narrow(mask), e).unwrap();
+        rows::update_row(room, words::wide(e.kind), words::low_byte(mask), e).unwrap();
     }
 }

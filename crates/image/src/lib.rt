@@ -99,12 +99,6 @@ pub fn judge(s: &[u8]) -> Option<Head>
     Some(Head { next, count })
 }
 
-fn low_byte(n: usize) -> u8
-    ensures { n < 256 → result ≡ n }
-{
-    (n % 256) as u8
-}
-
 // A row at the front of a part of the output that starts at its place.
 pub fn put_row(part: &mut [u8], r: Row)
     requires in_bounds { 21 ≤ length part.old }
@@ -112,7 +106,7 @@ pub fn put_row(part: &mut [u8], r: Row)
     ensures { part.new ≡ in_front_of (row_bytes (row_meant r)) part.old }
 {
     words::put32(part, 0, r.handle);
-    part[4] = low_byte(r.table);
+    part[4] = words::low_byte(r.table);
     words::put32(part, 5, r.v0);
     words::put32(part, 9, r.v1);
     words::put32(part, 13, r.v2);

@@ -19,6 +19,13 @@ pub fn wide(x: u8) -> usize
     x as usize
 }
 
+// The byte of a small number.
+pub fn low_byte(n: usize) -> u8
+    ensures { n < 256 → result ≡ n }
+{
+    (n % 256) as u8
+}
+
 // The byte at a place, and 256 past the end, which no field admits: a look cannot fail, so it answers no `Option`.
 pub fn byte(s: &[u8], at: usize) -> usize
     ensures { Peeked s.now at result }

@@ -44,14 +44,14 @@ update_row-requires-clause-can_join c =
       v2 = omega arith;
       v3 = omega arith;
     } in
-    update-can c.requires.running c.args.handle (values_at c.args.log.now (ones c.args.mask) c.args.values) _ c.requires.mask_bound c.narrow.ensures
+    update-can c.requires.running c.args.handle (values_at c.args.log.now (ones c.args.mask) c.args.values) _ c.requires.mask_bound c.low_byte.ensures
     (sym c.find.ensures ∙ c.in-Some.is)
     (rw c.slot_at-old.ensures at c.with_values-new.ensures) fits
 
 pub returns-in_err-update_row : goal.returns-in_err-update_row
 returns-in_err-update_row c =
     absurd
-    (update-finds c.requires.running c.args.handle (values_at c.args.log.now (ones c.args.mask) c.args.values) _ c.requires.mask_bound c.narrow.ensures
+    (update-finds c.requires.running c.args.handle (values_at c.args.log.now (ones c.args.mask) c.args.values) _ c.requires.mask_bound c.low_byte.ensures
     (sym c.find.ensures ∙ c.in-Some.is)
     (rw c.slot_at-old.ensures at c.with_values-new.ensures) _ _ (rw c.in_err-update_row.was at c.update_row.ensures))
 
@@ -68,7 +68,7 @@ returns c =
       v2 = omega arith;
       v3 = omega arith;
     } in
-    updated-one c.requires.running c.args.handle (values_at c.args.log.now (ones c.args.mask) c.args.values) _ c.requires.mask_bound c.narrow.ensures
+    updated-one c.requires.running c.args.handle (values_at c.args.log.now (ones c.args.mask) c.args.values) _ c.requires.mask_bound c.low_byte.ensures
     (sym c.find.ensures ∙ c.in-Some.is)
     (rw c.slot_at-old.ensures at c.with_values-new.ensures) fits
     (λ k. (c.type_inv.room k).fits) (rw c.in_ok-update_row.was at c.update_row.ensures)

@@ -23,13 +23,13 @@ slot_at-e-requires c =
 pub insert_row-requires : goal.insert_row-requires
 insert_row-requires c =
     let can = inserting-can c.requires.running c.requires.table_bound c.size-n.ensures (sym c.space_for.ensures ∙ c.in_ok-space_for.was)
-    c.loop-i.invariant c.loop-i-test.true c.slot_at-e.ensures c.narrow.ensures in
+    c.loop-i.invariant c.loop-i-test.true c.slot_at-e.ensures c.low_byte.ensures in
     record { room_len_bound = can.0; room_bound = can.1; joinable = can.2 }
 
 pub loop-i-preserved : goal.loop-i-preserved
 loop-i-preserved c =
     inserting-next c.requires.running c.requires.table_bound c.size-n.ensures (sym c.space_for.ensures ∙ c.in_ok-space_for.was)
-    c.loop-i.invariant c.loop-i-test.true c.slot_at-e.ensures c.narrow.ensures
+    c.loop-i.invariant c.loop-i-test.true c.slot_at-e.ensures c.low_byte.ensures
     (λ k. (c.type_inv.room k).fits) c.insert_row.ensures
 
 pub returns : goal.returns

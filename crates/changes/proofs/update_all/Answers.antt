@@ -19,18 +19,18 @@ update_row-requires c =
     let now = taking-running c.requires.running c.loop-i.invariant in record {
       laid = now.represents.laid;
       sorted = live-sorted now.reached now.represents;
-      can_join = updating-can c.requires.running c.requires.mask_bound c.requires.rewritten c.size-i-end.ensures c.loop-i.invariant c.loop-i-test.true c.slot_at-e.ensures c.narrow.ensures;
+      can_join = updating-can c.requires.running c.requires.mask_bound c.requires.rewritten c.size-i-end.ensures c.loop-i.invariant c.loop-i-test.true c.slot_at-e.ensures c.low_byte.ensures;
     }
 
 pub unwrap-requires : goal.unwrap-requires
 unwrap-requires c =
     updating-went c.requires.running c.requires.mask_bound c.requires.rewritten c.size-i-end.ensures c.loop-i.invariant c.loop-i-test.true
-    c.slot_at-e.ensures c.narrow.ensures _ _ c.update_row.ensures
+    c.slot_at-e.ensures c.low_byte.ensures _ _ c.update_row.ensures
 
 pub loop-i-preserved : goal.loop-i-preserved
 loop-i-preserved c =
     updating-next c.requires.running c.requires.mask_bound c.requires.rewritten c.size-i-end.ensures c.loop-i.invariant c.loop-i-test.true
-    c.slot_at-e.ensures c.narrow.ensures _ _ c.update_row.ensures (λ k. (c.type_inv.room k).fits)
+    c.slot_at-e.ensures c.low_byte.ensures _ _ c.update_row.ensures (λ k. (c.type_inv.room k).fits)
 
 pub returns : goal.returns
 returns c =
