@@ -64,7 +64,7 @@ fn update_one(
     Ok(())
 }
 
-// An operation of the log.
+// An operation of the log: what to run is a match on what was decoded.
 pub fn operate(room: &mut [u8], log: &[u8], q: Operation) -> Result<(), Stop>
     requires running { Running room.old }
     requires fit_operation { FitOperation (operation_meant log.now q) }
@@ -153,7 +153,7 @@ fn update_rows(
     Ok(())
 }
 
-// An action of a rule with these triggers.
+// An action of a rule with these triggers: what to run is a match on what was decoded.
 pub fn perform(room: &mut [u8], book: &[u8], triggers: usize, a: Action) -> Result<(), Stop>
     requires running { Running room.old }
     requires fit_action { FitAction (action_meant book.now triggers a) }

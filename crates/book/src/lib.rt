@@ -134,7 +134,7 @@ fn update_rows(s: &[u8], triggers: usize, at: usize) -> Option<(Action, usize)>
     ))
 }
 
-// The action at a place of a rule with these triggers.
+// The action at a place of a rule with these triggers. The numbers by which decoders choose are document 01's, so no enum stands between.
 #[tactic(auto, unfolding(meaning::specs::ByteLayouts::action, meaning::specs::ByteLayouts::action_of, meaning::specs::Reading::byte))]
 pub fn action_at(s: &[u8], triggers: usize, at: usize) -> Option<(Action, usize)>
     ensures { action_or s.now triggers result ≡ ByteLayouts.action triggers s.now at }
@@ -258,9 +258,9 @@ pub fn rule_at(s: &[u8], n: usize, at: usize) -> Option<(Rule, usize)>
 
 // The rules of a book of n.
 #[derive(Clone, Copy)]
-struct BookRules {
-    n: usize,
-    ghost few: { n ≤ 16 },
+pub struct BookRules {
+    pub n: usize,
+    pub ghost few: { n ≤ 16 },
 }
 
 impl Layout for BookRules {
@@ -307,7 +307,8 @@ pub fn rule_span(s: &[u8], n: usize, k: usize) -> Option<(usize, usize)>
     Some((start, end))
 }
 
-// The bytes of rule k of a well-formed book of n rules, as a part of it; empty if there is no rule k.
+// The bytes of rule k of a well-formed book of n rules, as a part of it; empty if there is no rule k. A part of the book in every case, as
+// document 01 has it, so no `Option`.
 pub fn rule_bytes(s: &[u8], n: usize, k: usize) -> &[u8]
     requires { n ≤ 16 }
     ensures { result.now ≡ (if ltb k n then rule_after s.now n (many k (rule n) s.now first_rule) else []) }

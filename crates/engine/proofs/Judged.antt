@@ -85,12 +85,12 @@ pub record Counts (s : List ℕ) (n : ℕ) : Type 0 where
   pub few : n ≤ 16
   pub short : length s ≤ 5480
 
-module _ (s : List ℕ) {count : Option ℕ} (e : count ≡ Answers.rules_in (judge_book s)) where
+module _ (s : List ℕ) {count : Option ℕ} (e : count ≡ Answers.rule_count_in (judge_book s)) where
   pub counts : {n : ℕ} → count ≡ Some n → Counts s n
-  unfolding Answers.rules_in
+  unfolding Answers.rule_count_in
   counts {n} is = go (judge_book s) refl (sym is ∙ e)
     where
-      go : (j : JudgedBook) → judge_book s ≡ j → Some n ≡ Answers.rules_in j → Counts s n
+      go : (j : JudgedBook) → judge_book s ≡ j → Some n ≡ Answers.rule_count_in j → Counts s n
       go (refused_book r) judged same = absurd (let z : ◌≡◌ {A = ℕ} 0 1 = cc in omega arith)
       go (accepted_book b order) judged same =
           let read = (judged-read s b order judged).0 in
@@ -106,10 +106,10 @@ module _ (s : List ℕ) {count : Option ℕ} (e : count ≡ Answers.rules_in (ju
 
   -- and a book without a count is refused
   pub uncounted : count ≡ None → (r : Refusal) × (judge_book s ≡ refused_book r)
-  unfolding Answers.rules_in
+  unfolding Answers.rule_count_in
   uncounted is = go (judge_book s) refl (sym is ∙ e)
     where
-      go : (j : JudgedBook) → judge_book s ≡ j → None ≡ Answers.rules_in j → (r : Refusal) × (judge_book s ≡ refused_book r)
+      go : (j : JudgedBook) → judge_book s ≡ j → None ≡ Answers.rule_count_in j → (r : Refusal) × (judge_book s ≡ refused_book r)
       go (refused_book r) judged same = (r, judged)
       go (accepted_book b order) judged same = absurd (let z : ◌≡◌ {A = ℕ} 0 1 = cc in omega arith)
 

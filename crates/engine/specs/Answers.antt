@@ -44,6 +44,6 @@ abbrev pub Gives : List ℕ → ℕ → List ℕ → Type 0
 Gives book k bytes = bytes ≡ rule_bytes book k
 
 -- how many rules a judged book has, none where it is refused
-unfoldable pub rules_in : JudgedBook → Option ℕ
-rules_in (refused_book r) = None
-rules_in (accepted_book b order) = Some (length b.rules)
+unfoldable pub rule_count_in : JudgedBook → Option ℕ
+rule_count_in (refused_book r) = None
+rule_count_in (accepted_book b order) = Some (length b.rules)

@@ -5,7 +5,7 @@
 ghost use Rattle.std.specs.Prelude.{◌≡◌, ◌≤◌, length, take};
 ghost use Rattle.meaning.specs.Base.{in_front_of};
 ghost use Rattle.meaning.specs.EntryPoints.{judge_book};
-ghost use Rattle.engine.specs.Answers.{Checks, Gives, Runs, rules_in};
+ghost use Rattle.engine.specs.Answers.{Checks, Gives, Runs, rule_count_in};
 
 use processing::Ended;
 use transaction::ReadOff;
@@ -84,7 +84,7 @@ pub fn check(book: &[u8], out: &mut [u8]) -> Result<usize, Refusal>
 
 // How many rules a book has that gets neither refusal 4 nor 5.
 pub fn rule_count(book: &[u8]) -> Option<usize>
-    ensures { result ≡ rules_in (judge_book book.now) }
+    ensures { result ≡ rule_count_in (judge_book book.now) }
 {
     let frame = book::judge(book)?;
     let plan = plan::plan_of(book, frame.count);
@@ -93,7 +93,7 @@ pub fn rule_count(book: &[u8]) -> Option<usize>
 }
 
 // The bytes of rule k as a part of the caller's book: empty if the book has refusal 4 or 5 or there is no
-// rule k.
+// rule k. A part in every case, as document 01 has it, so no `Option`.
 pub fn rule(book: &[u8], k: usize) -> &[u8]
     ensures { Gives book.now k result.now }
 {

@@ -1,5 +1,5 @@
 // Reads image, book and log from standard input, and prints what the run answers. It decides nothing: the
-// text is the library's, and only reading and writing are done here.
+// text is the library's, and so is how input is read to its end.
 #![tactic(auto)]
 
 use std::io;

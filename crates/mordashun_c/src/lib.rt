@@ -40,6 +40,7 @@ const COUNT: u64 = 4294967296;
 // What one of a start is worth in the word of a place.
 const START: u64 = 4294967296;
 
+// C is told one word, so no rule is 0 and no `Option`.
 const NOWHERE: u64 = 0;
 
 // The word of a refusal: its number, and every other bit 0.

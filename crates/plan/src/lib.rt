@@ -18,8 +18,9 @@ pub struct Listed {
 }
 
 // Of a book of at most 16 rules. `tables` has the own table of each rule, INACTIVE for a rule that is not active, and ABSENT past the last
-// rule: numbers, and an array of its own, as `effects::settle` and the definitions of what the room represents take it. `rules` has what is listed of each rule, and zeros past the last. `order`
-// has the rules' numbers in total order, where `precedes` has no cycle, so that each of them is that of a rule.
+// rule: numbers, and an array of its own, as `effects::settle` and the definitions of what the room represents take it. `rules` has what
+// is listed of each rule, and zeros past the last. `order` has the rules' numbers in total order, where `precedes` has no cycle, so that
+// each of them is that of a rule.
 #[derive(Clone, Copy)]
 pub struct Plan {
     pub count: usize,

@@ -106,7 +106,8 @@ fn copy_bytes(room: &mut [u8], from: usize, to: usize, n: usize)
     room.copy_within(from..from + n, to);
 }
 
-// A table with room for `MOST` slots: its size at its base, and after it its slots.
+// A table with room for `MOST` slots: its size at its base, and after it its slots. That it stands in a room (`Stands`) is a fact about both,
+// and so a clause: a value that held the room too would keep it from the other tables.
 #[derive(Clone, Copy)]
 pub struct Table<const MOST: usize> {
     pub base: usize,
@@ -229,7 +230,7 @@ impl<const MOST: usize> Table<MOST> {
         }
     }
 
-    // The same as `place`: nothing is searched where it is the near one, or at the end.
+    // The same as `place`, looked for in another way: nothing is searched where it is the near one, or at the end.
     pub fn place_near(self, room: &[u8], near: usize, handle: u32) -> usize
         requires stands { Stands self.base MOST room.now }
         requires sorted { Sorted (table_at room.now self.base) }
@@ -248,7 +249,7 @@ impl<const MOST: usize> Table<MOST> {
         self.place(room, handle)
     }
 
-    // The same as `find`, with a near place to try first.
+    // The same as `find`, looked for in another way: a near place is tried first.
     pub fn find_near(self, room: &[u8], near: usize, handle: u32) -> Option<usize>
         requires stands { Stands self.base MOST room.now }
         requires sorted { Sorted (table_at room.now self.base) }

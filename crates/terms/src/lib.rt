@@ -138,7 +138,7 @@ fn matching(s: &[u8], triggers: usize, at: usize, negated: bool) -> Option<(Term
     ))
 }
 
-// The term at a place of a rule with these triggers.
+// The term at a place of a rule with these triggers. The numbers by which decoders choose are document 01's, in its ranges.
 #[tactic(auto, unfolding(meaning::specs::ByteLayouts::term, meaning::specs::ByteLayouts::term_of, meaning::specs::Reading::byte))]
 pub fn term_at(s: &[u8], triggers: usize, at: usize) -> Option<(Term, usize)>
     ensures { term_or s.now result ≡ ByteLayouts.term triggers s.now at }
@@ -214,7 +214,7 @@ fn sum(s: &[u8], at: usize) -> Option<(Expression, usize)>
     Some((Expression::Sum { column, constant }, next))
 }
 
-// The expression at a place.
+// The expression at a place, by document 01's number too.
 #[tactic(auto, unfolding(meaning::specs::ByteLayouts::expression, meaning::specs::ByteLayouts::expression_of, meaning::specs::Reading::byte))]
 pub fn expression_at(s: &[u8], at: usize) -> Option<(Expression, usize)>
     ensures { expression_or result ≡ ByteLayouts.expression s.now at }

@@ -31,6 +31,7 @@ pub const OPERATIONS: usize = 256;
 
 pub const FIRST: usize = 7;
 
+// As an insertion of `book`, but an operation: three lines over a type of its own.
 #[tactic(auto, using(fields::proofs::Laws::values_in_a_row), unfolding(meaning::specs::ByteLayouts::insertion, meaning::specs::ByteLayouts::table))]
 fn insertion(s: &[u8], at: usize) -> Option<(Operation, usize)>
     ensures { operation_or s.now result ≡ ByteLayouts.insertion s.now at }
@@ -65,7 +66,7 @@ fn change(s: &[u8], at: usize) -> Option<(Operation, usize)>
     ))
 }
 
-// The operation at a place.
+// The operation at a place, by document 01's number.
 #[tactic(auto, unfolding(meaning::specs::ByteLayouts::operation, meaning::specs::ByteLayouts::operation_of, meaning::specs::Reading::byte))]
 pub fn operation_at(s: &[u8], at: usize) -> Option<(Operation, usize)>
     ensures { operation_or s.now result ≡ ByteLayouts.operation s.now at }

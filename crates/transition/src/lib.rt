@@ -62,7 +62,7 @@ fn draw_updated(room: &mut [u8], near: usize, rule: Watch, wait: EffectTable, i:
     draw_live(room, room::NEW, near, rule, handle)
 }
 
-// What effect i of a table of what waits shows in the transition tables.
+// What effect i of a table of what waits shows in the transition tables: by the numbers of its kind, of which `effects` has the names.
 fn draw_one(room: &mut [u8], near: usize, rule: Watch, wait: EffectTable, i: usize) -> usize
     requires stands { Stands wait.base ENTRIES room.old }
     requires i_bound { i < low32_at room.old wait.base }
