@@ -17,7 +17,7 @@ use Rattle.words.specs.Words.{Bytes}
 use Rattle.book.specs.declared.Rule.{Rule as RuleStood}
 use Rattle.book.specs.Books.{condition_meant, actions_meant, rule_of, rule_meant, rule_or}
 use Rattle.plan.specs.declared.Plan.{Plan}
-use Rattle.plan.specs.Plans.{rules_in, unlisted, Planned}
+use Rattle.plan.specs.Plans.{rules_in, unlisted, Lists}
 use Rattle.plan.proofs.Standing.{read-listed}
 use Rattle.plan.proofs.Active.{low-own}
 use Rattle.room.specs.declared.Watch.{Watch}
@@ -47,12 +47,12 @@ pub record Drawn (xs ys s : List ℕ) (plan : Plan) (k : ℕ) (rule : RuleStood)
   pub bytes : Bytes ys
 
 pub drawn : {xs ys s : List ℕ} {plan : Plan} {k : ℕ} {read : Option (RuleStood × ℕ)} {rule : RuleStood} {after : ℕ} {w : Watch}
-    → k < plan.count → Planned s plan.count plan → get_or plan.tables k 0 ≤ 3
+    → k < plan.count → Lists s plan.count plan → get_or plan.tables k 0 ≤ 3
     → rule_or s read ≡ ByteLayouts.rule plan.count s (get_or plan.rules k unlisted).start → read ≡ Some (rule, after)
     → (w.table ≡ rule.head.table) × (w.triggers ≡ rule.head.triggers) × (w.columns ≡ rule.head.columns)
     → Drew xs ys k (watch_rule w) → Bytes ys → Drawn xs ys s plan k rule
-drawn {plan = plan} {k = k} {w = w} below planned on e is of d bytes =
-    let here = planned.placed k below in
+drawn {plan = plan} {k = k} {w = w} below lists on e is of d bytes =
+    let here = lists.placed k below in
     record {
       low = omega (arith, below, plan.few);
       on = on;

@@ -5,7 +5,7 @@
 ghost use Rattle.std.specs.Prelude.{◌≡◌, ◌≤◌, ◌<◌, get_or};
 ghost use Rattle.meaning.specs.Processing as Processing;
 ghost use Rattle.book.specs.Books.{condition_meant};
-ghost use Rattle.plan.specs.Plans.{Planned};
+ghost use Rattle.plan.specs.Plans.{Lists};
 ghost use Rattle.room.specs.Room.{Laid, transition_in, live_rows};
 ghost use Rattle.room.specs.Represents.{Ready};
 ghost use Rattle.consider.specs.Considers.{Considers};
@@ -30,7 +30,7 @@ fn condition_holds(room: &[u8], book: &[u8], triggers: usize, c: Option<Query>) 
 pub fn consider(room: &mut [u8], book: &[u8], plan: &Plan, k: usize) -> Result<(), Stop>
     requires ready { Ready room.old plan.now.tables }
     requires count_bound { k < plan.now.count }
-    requires planned { Planned book.now plan.now.count plan.now }
+    requires lists { Lists book.now plan.now.count plan.now }
     requires k_bound { get_or plan.now.tables k 0 ≤ 3 }
     ensures { Considers room.old room.new book.now plan.now k result }
 {

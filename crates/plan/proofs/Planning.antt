@@ -175,9 +175,11 @@ module _ {s : List ℕ} {n : ℕ} {tables : List ℕ} {listed : List Listed} {ma
       → Planned s n (record { count = n; tables = tables; rules = listed; order = order; few = few; numbers = numbers })
   all-planned few numbers =
       record {
-        count = refl;
-        placed = λ j l. (p.stored j l).placed;
-        watched = λ j l. (p.stored j l).watched;
-        absent = p.absent;
+        lists = record {
+          count = refl;
+          placed = λ j l. (p.stored j l).placed;
+          watched = λ j l. (p.stored j l).watched;
+          absent = p.absent;
+        };
         ordered = ordered;
       }

@@ -52,11 +52,15 @@ pub record Watched (rule : Rule) (g c : ℕ) : Type 0 where
   pub triggers : g ≡ rule.triggers
   pub columns : c ≡ rule.columns
 
--- a plan of a book of n rules
-pub record Planned (s : List ℕ) (n : ℕ) (plan : Plan) : Type 0 where
+-- a plan lists the rules of a book of n, in whatever order
+pub record Lists (s : List ℕ) (n : ℕ) (plan : Plan) : Type 0 where
   pub count : plan.count ≡ n
   pub placed : (k : ℕ) → k < n → Placed s n k (get_or plan.rules k unlisted).start (get_or plan.tables k 0)
   pub watched : (k : ℕ) (b : k < n)
       → Watched (placed k b).rule (get_or plan.rules k unlisted).triggers (get_or plan.rules k unlisted).columns
   pub absent : (k : ℕ) → n ≤ k → k < 16 → get_or plan.tables k 0 ≡ 5
+
+-- a plan of a book of n rules: it lists them, and has their total order
+pub record Planned (s : List ℕ) (n : ℕ) (plan : Plan) : Type 0 where
+  pub lists : Lists s n plan
   pub ordered : order_meant n plan.order ≡ total_order (rules_in s n)

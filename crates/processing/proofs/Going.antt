@@ -10,7 +10,7 @@ use Rattle.room.proofs.Kept.{kept_trans}
 use Rattle.changes.specs.declared.Stop.{Stop}
 use Rattle.changes.specs.Steps.{Step}
 use Rattle.plan.specs.declared.Plan.{Plan}
-use Rattle.plan.specs.Plans.{Planned}
+use Rattle.plan.specs.Plans.{Lists}
 use Rattle.consider.specs.Considers.{Considers}
 use Rattle.processing.specs.declared.Budget.{Budget}
 use Rattle.processing.specs.declared.Outcome.TheVariants as outcome
@@ -44,9 +44,9 @@ module _ {xs zs vs book : List ℕ} {plan : Plan} {limit : ℕ} {b : Budget} (g 
     pub going-below : k < plan.count
     going-below = rule-below t q g.midway
 
-    module _ (planned : Planned book plan.count plan) where
+    module _ (lists : Lists book plan.count plan) where
       pub going-active : get_or plan.tables k 0 ≤ 3
-      going-active = rule-active t q planned g.midway
+      going-active = rule-active t q lists g.midway
 
       module _ (some_left : b.count < limit) {ys : List ℕ} {step : Step} (c : Considers vs ys book plan k step) {n : ℕ}
           (counted : n ≡ b.count + 1) where
@@ -59,7 +59,7 @@ module _ {xs zs vs book : List ℕ} {plan : Plan} {limit : ℕ} {b : Budget} (g 
           beyond = kept;
           from =
               g.rest ys _
-              (turn-ends t q planned going-below c (limit - b.count) b.count (omega arith) e (told.0, told.1 ∙ counted));
+              (turn-ends t q lists going-below c (limit - b.count) b.count (omega arith) e (told.0, told.1 ∙ counted));
         }
 
         pub going_on : step ≡ Ok tt → (after : Budget) → after.count ≡ n → after.limit ≡ b.limit → Going xs ys book plan limit after
@@ -70,9 +70,9 @@ module _ {xs zs vs book : List ℕ} {plan : Plan} {limit : ℕ} {b : Budget} (g 
               same = stays ∙ g.same;
               within = omega arith;
               beyond = kept;
-              midway = turn-midway t q planned going-below c e g.midway;
+              midway = turn-midway t q lists going-below c e g.midway;
               rest = λ ws r from.
                   g.rest ws r
-                  (turn_on t q planned going-below c e (limit - b.count) b.count (omega arith)
+                  (turn_on t q lists going-below c e (limit - b.count) b.count (omega arith)
                   (rw (now-left, now-made) at from));
             }

@@ -26,7 +26,7 @@ use Rattle.changes.specs.declared.Stop.{Stop}
 use Rattle.changes.specs.Steps.{Step, Follows, goes_on, rolls_back, fails}
 use Rattle.plan.specs.declared.Plan.{Plan}
 use Rattle.plan.specs.Numbers.{numbers_in}
-use Rattle.plan.specs.Plans.{rules_in, Planned}
+use Rattle.plan.specs.Plans.{rules_in, Lists}
 use Rattle.plan.proofs.Active.{active-low}
 use Rattle.trigger.specs.Triggers.{next_meant, order_in}
 use Rattle.consider.specs.Considers.{Considers}
@@ -115,21 +115,21 @@ module _ {xs ys book : List ℕ} {plan : Plan} {found : Option ℕ} (t : Looks x
         (first m.reaches)
 
     -- it is triggered, so it is active
-    pub rule-active : Planned book plan.count plan → Midway xs book plan → get_or plan.tables k 0 ≤ 3
+    pub rule-active : Lists book plan.count plan → Midway xs book plan → get_or plan.tables k 0 ≤ 3
     unfolding first_triggered triggered
-    rule-active planned m =
-        let here = planned.placed k (rule-below m) in
+    rule-active lists m =
+        let here = lists.placed k (rule-below m) in
         let on = (first-is (triggered (rules_of book plan) m.state) (order_in plan) k (first m.reaches)).passes in
         let both : here.rule.active && any (λ p. wakes here.rule p.1) (waits m.state k) ≡ true = rw here.listed at on in
         active-low here (and-true here.rule.active (any (λ p. wakes here.rule p.1) (waits m.state k)) both).0
 
-    module _ (planned : Planned book plan.count plan) (below : k < plan.count) {zs : List ℕ} {step : Step}
+    module _ (lists : Lists book plan.count plan) (below : k < plan.count) {zs : List ℕ} {step : Step}
         (c : Considers ys zs book plan k step) where
       -- what its consideration leaves, from every state
       followed : {start : Image} {s : State} → Reaches xs book plan start s
           → Follows zs plan.tables (seen s k) (consider (rules_of book plan) s k) step
       followed {start} {s} a =
-          let here = there-below (rules_of book plan) k (planned.placed k below).rule (planned.placed k below).listed in
+          let here = there-below (rules_of book plan) k (lists.placed k below).rule (lists.placed k below).listed in
           c.follows start s a.reached (t.rests start s a).settled (omega (arith, a.marks))
 
       -- the run ends there

@@ -3,7 +3,7 @@
 #![tactic(auto)]
 
 ghost use Rattle.std.specs.Prelude.{◌≡◌, ◌+◌, ◌<◌};
-ghost use Rattle.plan.specs.Plans.{rules_in, Planned};
+ghost use Rattle.plan.specs.Plans.{rules_in, Lists};
 ghost use Rattle.processing.specs.Endings.{Starts, Processes, stopped};
 ghost use Rattle.processing.specs.Rest.{Midway, Looks, Steps};
 
@@ -71,7 +71,7 @@ fn ending(outcome: Outcome, count: usize) -> Ended
 
 // What was done joins what waits; then the first triggered rule in total order.
 fn next_rule(room: &mut [u8], book: &[u8], plan: &Plan) -> Option<usize>
-    requires planned { Planned book.now plan.now.count plan.now }
+    requires lists { Lists book.now plan.now.count plan.now }
     requires midway { Midway room.old book.now plan.now }
     ensures { Looks room.old room.new book.now plan.now result }
 {
@@ -81,7 +81,7 @@ fn next_rule(room: &mut [u8], book: &[u8], plan: &Plan) -> Option<usize>
 
 // Considers triggered rules, the first in total order each time.
 fn steps(room: &mut [u8], book: &[u8], plan: &Plan, limit: usize) -> Ended
-    requires planned { Planned book.now plan.now.count plan.now }
+    requires lists { Lists book.now plan.now.count plan.now }
     requires midway { Midway room.old book.now plan.now }
     ensures { Steps room.old room.new book.now plan.now limit result }
 {
@@ -111,7 +111,7 @@ pub fn process(
     limit: usize,
     operations: usize,
 ) -> Ended
-    requires planned { Planned book.now plan.now.count plan.now }
+    requires lists { Lists book.now plan.now.count plan.now }
     requires starts { Starts room.old plan.now.tables (rules_in book.now plan.now.count) }
     ensures { Processes room.old room.new book.now log.now plan.now limit operations result }
 {

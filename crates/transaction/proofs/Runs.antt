@@ -25,7 +25,7 @@ use Rattle.room.specs.Joins as Joins
 use Rattle.room.specs.Represents.{Represents, starting}
 use Rattle.room.proofs.Kept.{kept_trans}
 use Rattle.plan.specs.declared.Plan.{Plan}
-use Rattle.plan.specs.Plans.{rules_in, Planned}
+use Rattle.plan.specs.Plans.{rules_in, Lists}
 use Rattle.plan.proofs.Active.{own-within}
 use Rattle.loading.specs.Loads.{Loads}
 use Rattle.loading.proofs.Started.{loaded-represents}
@@ -72,7 +72,7 @@ handed-meant (Failed r) image ys start e is next rows given = rw (← is) (sym g
 -- ---- The tables of a plan
 
 -- the rules of a plan have their own table, or 4, and past them stands 5
-planned-ended : {book : List ℕ} {plan : Plan} → Planned book plan.count plan → Joins.RulesEnd plan.tables
+planned-ended : {book : List ℕ} {plan : Plan} → Lists book plan.count plan → Joins.RulesEnd plan.tables
 planned-ended {plan = plan} p = record { stays = λ j k le few past. go j k le few past (ltb j plan.count) refl }
   where
     go : (j k : ℕ) → j ≤ k → k < 16 → 4 < get_or plan.tables j 0 → (b : Bool) → ltb j plan.count ≡ b → 4 < get_or plan.tables k 0
@@ -92,7 +92,7 @@ module _ {image book : List ℕ} {a : ReadOff} (ok : Accepts image book a) where
     represents-start : (start : Image) → read_all ByteLayouts.image image ≡ some start
         → Represents ys a.plan.tables (starting (rules_in book a.plan.count) start)
     represents-start start e =
-        loaded-represents (rules_in book a.plan.count) (loads.is start e) bytes (planned-ended ok.planned)
+        loaded-represents (rules_in book a.plan.count) (loads.is start e) bytes (planned-ended ok.lists)
 
     pub starts : Starts ys a.plan.tables (rules_in book a.plan.count)
     unfolding start_image

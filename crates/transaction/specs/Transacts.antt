@@ -10,7 +10,7 @@ use Rattle.meaning.specs.Processing.{Ending, process}
 use Rattle.meaning.specs.EntryPoints.{handed_back, working_room}
 use Rattle.words.specs.Words.{readable}
 use Rattle.image.specs.Images as Images
-use Rattle.plan.specs.Plans.{rules_in, Planned}
+use Rattle.plan.specs.Plans.{rules_in, Lists}
 use Rattle.trigger.specs.Triggers.{order_in}
 use Rattle.processing.specs.declared.Ended.{Ended}
 use Rattle.processing.specs.Endings.{outcome_meant}
@@ -19,7 +19,7 @@ use Rattle.transaction.specs.declared.ReadOff.{ReadOff}
 -- image and book are well formed, and have what was read off them
 pub record Accepts (image book : List ℕ) (a : ReadOff) : Type 0 where
   pub rows : Images.WellFormed image a.image.next a.image.count
-  pub planned : Planned book a.plan.count a.plan
+  pub lists : Lists book a.plan.count a.plan
 
 -- the run that the specification says
 unfoldable pub ending_from : List ℕ → List ℕ → ReadOff → Image → Ending

@@ -3,7 +3,7 @@
 
 ghost use Rattle.std.specs.Prelude.{◌≡◌, ◌<◌};
 ghost use Rattle.room.specs.Room.{Laid};
-ghost use Rattle.plan.specs.Plans.{Planned};
+ghost use Rattle.plan.specs.Plans.{Lists};
 ghost use Rattle.trigger.specs.Triggers.{Triggers, TriggersFirst};
 
 use book::Head;
@@ -25,7 +25,7 @@ pub fn watch(head: Head) -> Watch
 fn is_triggered(room: &[u8], s: &[u8], plan: &Plan, k: usize) -> bool
     requires laid { Laid room.now }
     requires count_bound { k < plan.now.count }
-    requires planned { Planned s.now plan.now.count plan.now }
+    requires lists { Lists s.now plan.now.count plan.now }
     ensures { Triggers room.now s.now plan.now k result }
 {
     if 3 < plan.tables[k] {
@@ -45,7 +45,7 @@ fn is_triggered(room: &[u8], s: &[u8], plan: &Plan, k: usize) -> bool
 // The first triggered rule in total order.
 pub fn first_triggered(room: &[u8], s: &[u8], plan: &Plan) -> Option<usize>
     requires laid { Laid room.now }
-    requires planned { Planned s.now plan.now.count plan.now }
+    requires lists { Lists s.now plan.now.count plan.now }
     ensures { TriggersFirst room.now s.now plan.now result }
 {
     let rules = plan.order?;

@@ -12,7 +12,7 @@ use Rattle.consider.proofs.consider.Goals as goal
 
 pub returns-in_default : goal.returns-in_default
 returns-in_default c =
-    absurd (can-read (c.requires.planned.placed _ c.requires.count_bound) c.rule_at.ensures c.in_default.is)
+    absurd (can-read (c.requires.lists.placed _ c.requires.count_bound) c.rule_at.ensures c.in_default.is)
 
 pub draw-requires-clause-sorted : goal.draw-requires-clause-sorted
 draw-requires-clause-sorted c = live-sorted c.requires.ready.reached c.requires.ready.settled.represents
@@ -25,7 +25,7 @@ draw-requires-clause-few c =
 pub returns-then-not-condition_holds : goal.returns-then-not-condition_holds
 returns-then-not-condition_holds c =
     let d =
-    drawn c.requires.count_bound c.requires.planned c.requires.k_bound c.rule_at.ensures c.in-Some.is c.watch.ensures
+    drawn c.requires.count_bound c.requires.lists c.requires.k_bound c.rule_at.ensures c.in-Some.is c.watch.ensures
     c.draw.ensures (search rules) in
     considers-none d c.condition_holds.ensures c.if-not-condition_holds.true
 
@@ -36,6 +36,6 @@ run_actions-requires c =
 pub returns : goal.returns
 returns c =
     let d =
-    drawn c.requires.count_bound c.requires.planned c.requires.k_bound c.rule_at.ensures c.in-Some.is c.watch.ensures
+    drawn c.requires.count_bound c.requires.lists c.requires.k_bound c.rule_at.ensures c.in-Some.is c.watch.ensures
     c.draw.ensures (search rules) in
     considers-acts d c.condition_holds.ensures c.if-not-condition_holds.false c.run_actions.ensures

@@ -14,17 +14,17 @@ consider-requires-clause-count_bound c =
 
 pub consider-requires-clause-k_bound : goal.consider-requires-clause-k_bound
 consider-requires-clause-k_bound c =
-    going-active c.loop-b.invariant c.next_rule.ensures c.in-Some.is c.requires.planned
+    going-active c.loop-b.invariant c.next_rule.ensures c.in-Some.is c.requires.lists
 
 pub returns-in-Err : goal.returns-in-Err
 returns-in-Err c =
     let told = c.ending-in-Err.ensures in
-    going-ends c.loop-b.invariant c.next_rule.ensures c.in-Some.is c.requires.planned (omega arith)
+    going-ends c.loop-b.invariant c.next_rule.ensures c.in-Some.is c.requires.lists (omega arith)
     c.consider.ensures c.spent-b.ensures.0 c.in-Err.is (told.0 ∙ c.into.ensures, told.1)
 
 pub loop-b-preserved : goal.loop-b-preserved
 loop-b-preserved c =
-    going_on c.loop-b.invariant c.next_rule.ensures c.in-Some.is c.requires.planned (omega arith)
+    going_on c.loop-b.invariant c.next_rule.ensures c.in-Some.is c.requires.lists (omega arith)
     c.consider.ensures c.spent-b.ensures.0 c.in_default-consider.is _ refl c.spent-b.ensures.1
 
 pub returns-in-None : goal.returns-in-None

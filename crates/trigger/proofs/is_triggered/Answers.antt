@@ -5,9 +5,9 @@ use Rattle.trigger.proofs.is_triggered.Goals as goal
 
 pub returns-then-plan-k-gt3 : goal.returns-then-plan-k-gt3
 returns-then-plan-k-gt3 c =
-    not-active _ _ (c.requires.planned.placed _ c.requires.count_bound) c.if-plan-k-gt3.true
+    not-active _ _ (c.requires.lists.placed _ c.requires.count_bound) c.if-plan-k-gt3.true
 
 pub returns : goal.returns
 returns c =
-    active-woken _ _ (c.requires.planned.placed _ c.requires.count_bound) (c.requires.planned.watched _ c.requires.count_bound) (omega (arith, c.requires.count_bound, c.args.plan.now.few)) c.if-plan-k-gt3.false _
+    active-woken _ _ (c.requires.lists.placed _ c.requires.count_bound) (c.requires.lists.watched _ c.requires.count_bound) (omega (arith, c.requires.count_bound, c.args.plan.now.few)) c.if-plan-k-gt3.false _
     c.wide.ensures.0 c.wide-2.ensures.0 c.wide-3.ensures.0 c.triggered.ensures
