@@ -143,9 +143,18 @@ module _ {x0 x : List ℕ} {es : List Expression} {mask i : ℕ} (t : Turning x0
   unfolding table_bytes
   turning-stands = stands-kept-below t.frame CHOSEN ROWS t.chosen (omega arith)
 
+  pub turning-sized : low32_at x CHOSEN ≡ low32_at x0 CHOSEN
+  turning-sized = omega (arith, table-length x CHOSEN, ap length table_kept, table-length x0 CHOSEN)
+
+  -- chosen row k, pushed, is chosen row i, pushed, where k is i
+  pub turning-pushed : {y : List ℕ} {k : ℕ}
+      → Holds WORKED ROWS x y (table_at x WORKED ++ (get_or (table_at x CHOSEN) k blank ∷ [])) → k ≡ i
+      → Holds WORKED ROWS x y (table_at x WORKED ++ (get_or (table_at x CHOSEN) i blank ∷ []))
+  turning-pushed p is = rw is at p
+
   module _ (more : i < low32_at x0 CHOSEN) where
-    pub turning-within : i < low32_at x CHOSEN
-    turning-within = omega (arith, table-length x CHOSEN, ap length table_kept, table-length x0 CHOSEN)
+    turning-within : i < low32_at x CHOSEN
+    turning-within = omega (arith, turning-sized)
 
     pub turning-room : low32_at x WORKED < ROWS
     turning-room = omega (arith, t.sofar, table-length x WORKED, turning-within, turning-stands.size)
