@@ -4,7 +4,6 @@ use mathlib.Core.Path.{◌≡◌, refl, sym, ap, ◌∙◌}
 use mathlib.Core.List.{List, [], ◌∷◌, ◌++◌, map, append-nil, append_assoc}
 use Prim.Native.Nat.{ℕ, ◌+◌, ◌-◌, ◌*◌, ◌≤◌, ◌<◌}
 use native.Mathlib.Omega.{arith}
-use lib.IntN.{ℤ}
 use lib.ListN.{length}
 use Rattle.std.specs.Fmt as Fmt
 use Rattle.meaning.specs.Base.{ascii}
@@ -26,17 +25,19 @@ use Rattle.lines.proofs.Texts.{puts-nothing, puts_then, puts-as, puts-front}
 
 -- ---- A row
 
-pub puts-row : {xs ys zs us vs : List ℕ} {at a b e end : ℕ} {z0 z1 z2 z3 : ℤ} (r : Row)
+pub puts-row : {xs ys zs us vs : List ℕ} {at a b e end most : ℕ} {t0 t1 t2 t3 : List ℕ} (r : Row)
     → r.handle < 4294967296 → r.table ≤ 3
     → PutsAt xs ys at 10 (Fmt.decimal r.handle) a → PutsAt ys zs a 11 (spaced (map Fmt.decimal (r.table ∷ []))) b
-    → PutsAt zs us b 48 (spaced (map Fmt.signed_decimal (z0 ∷ z1 ∷ z2 ∷ z3 ∷ []))) e → PutsAt us vs e 1 (ascii "\n") end
-    → z0 ≡ signed r.v0 → z1 ≡ signed r.v1 → z2 ≡ signed r.v2 → z3 ≡ signed r.v3 → PutsAt xs vs at 70 (row_line (row_meant r)) end
+    → PutsAt zs us b most (spaced (t0 ∷ t1 ∷ t2 ∷ t3 ∷ [])) e → PutsAt us vs e 1 (ascii "\n") end
+    → most ≤ 48 → t0 ≡ Fmt.signed_decimal (signed r.v0) → t1 ≡ Fmt.signed_decimal (signed r.v1)
+    → t2 ≡ Fmt.signed_decimal (signed r.v2) → t3 ≡ Fmt.signed_decimal (signed r.v3)
+    → PutsAt xs vs at 70 (row_line (row_meant r)) end
 unfolding row_line row_meant line spaced
-puts-row r handle table one two four newline e0 e1 e2 e3 =
+puts-row r handle table one two four newline most e0 e1 e2 e3 =
     puts_then
     (puts_then (rw (shown r.handle handle) at one)
     (puts_then (rw (append-nil (Fmt.decimal r.table), shown r.table (omega arith)) at two)
-    (rw (e0, e1, e2, e3, shown-value r.v0, shown-value r.v1, shown-value r.v2, shown-value r.v3) at four)))
+    (rw (e0, e1, e2, e3, shown-value r.v0, shown-value r.v1, shown-value r.v2, shown-value r.v3) at (puts-as refl most four))))
     newline
 
 -- ---- Row after row
