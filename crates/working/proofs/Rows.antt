@@ -153,7 +153,7 @@ module _ {x0 x : List ℕ} {es : List Expression} {mask i : ℕ} (t : Turning x0
   turning-pushed p is = rw is at p
 
   module _ (more : i < low32_at x0 CHOSEN) where
-    turning-within : i < low32_at x CHOSEN
+    pub turning-within : i < low32_at x CHOSEN
     turning-within = omega (arith, turning-sized)
 
     pub turning-room : low32_at x WORKED < ROWS
