@@ -11,9 +11,7 @@ use Rattle.words.proofs.plus.Goals as goal
 pub returns-in_err-sum : goal.returns-in_err-sum
 unfolding values_plus
 returns-in_err-sum c =
-    let x = cast_operand c.cast_signed.ensures c.ranges.a.fits in
-    let y = cast_operand c.cast_signed-2.ensures c.ranges.b.fits in
-    rw c.from_residual.ensures (sym (out-of-range (λ fits. c.in_err-sum.ensures (rw (x, y) fits))))
+    rw c.from_residual.ensures (sym (out-of-range (λ fits. search (rules, cast_operand, c.in_err-sum.was))))
 
 pub returns : goal.returns
 unfolding values_plus
