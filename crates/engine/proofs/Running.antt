@@ -22,7 +22,7 @@ use Rattle.book.specs.Books as Books
 use Rattle.book.specs.declared.Frame.{Frame}
 use Rattle.transaction_log.specs.Log.{log_or, operations_meant}
 use Rattle.plan.specs.Numbers.{numbers_in}
-use Rattle.plan.specs.Plans.{Lists, Planned}
+use Rattle.plan.specs.Plans.{Planned}
 use Rattle.plan.specs.declared.Plan.{Plan}
 use Rattle.trigger.specs.Triggers.{order_in}
 use Rattle.processing.specs.declared.Ended.{Ended}
@@ -67,7 +67,7 @@ module _ (image book log : List ℕ) (head : Head) (i : Images.WellFormed image 
     pub accepts : (operations : ℕ) → Accepts image book (read_off head frame plan operations)
     accepts operations = record {
       rows = i;
-      lists = subst (λ (m : ℕ). Lists book m plan) (sym p.lists.count) p.lists;
+      planned = subst (λ (m : ℕ). Planned book m plan) (sym p.lists.count) p;
     }
 
     pub log-accepted : (start : Image) → read_all ByteLayouts.image image ≡ some start → (r : Option ℕ) (operations : ℕ)

@@ -1,1 +1,2 @@
+pub mod Accepted
 mod Runs

@@ -35,7 +35,7 @@ use Rattle.processing.specs.declared.Ended.{Ended}
 use Rattle.processing.specs.Endings.{outcome_meant, Starts, EndsAs, Processes}
 use Rattle.transaction.specs.declared.ReadOff.{ReadOff}
 use Rattle.transaction.specs.Handed.{committed, handed}
-use Rattle.transaction.specs.Transacts.{Accepts, Transacts, ending_from}
+use Rattle.transaction.specs.Transacts.{Runnable, Transacts, ending_from}
 
 -- ---- What stands past the tables
 
@@ -83,7 +83,7 @@ planned-ended {plan = plan} p = record { stays = λ j k le few past. go j k le f
 
 -- ---- The run
 
-module _ {image book : List ℕ} {a : ReadOff} (ok : Accepts image book a) where
+module _ {image book : List ℕ} {a : ReadOff} (ok : Runnable image book a) where
   -- the start image
   start_image : Image
   start_image = record { next = a.image.next; rows = ok.rows.rows }

@@ -10,7 +10,7 @@ use Rattle.meaning.specs.Processing.{Ending, process}
 use Rattle.meaning.specs.EntryPoints.{handed_back, working_room}
 use Rattle.words.specs.Words.{readable}
 use Rattle.image.specs.Images as Images
-use Rattle.plan.specs.Plans.{rules_in, Lists}
+use Rattle.plan.specs.Plans.{rules_in, Lists, Planned}
 use Rattle.trigger.specs.Triggers.{order_in}
 use Rattle.processing.specs.declared.Ended.{Ended}
 use Rattle.processing.specs.Endings.{outcome_meant}
@@ -18,6 +18,11 @@ use Rattle.transaction.specs.declared.ReadOff.{ReadOff}
 
 -- image and book are well formed, and have what was read off them
 pub record Accepts (image book : List ℕ) (a : ReadOff) : Type 0 where
+  pub rows : Images.WellFormed image a.image.next a.image.count
+  pub planned : Planned book a.plan.count a.plan
+
+-- A run asks for less: it follows the order that a plan has, whatever it is.
+pub record Runnable (image book : List ℕ) (a : ReadOff) : Type 0 where
   pub rows : Images.WellFormed image a.image.next a.image.count
   pub lists : Lists book a.plan.count a.plan
 

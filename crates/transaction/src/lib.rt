@@ -6,7 +6,7 @@ ghost use Rattle.meaning.specs.Base.{in_front_of};
 ghost use Rattle.slots.specs.Slots.{Stands};
 ghost use Rattle.room.specs.Room.{LIVE, ROWS};
 ghost use Rattle.transaction.specs.Handed.{committed, handed};
-ghost use Rattle.transaction.specs.Transacts.{Accepts, Transacts};
+ghost use Rattle.transaction.specs.Transacts.{Runnable, Transacts};
 
 use plan::Plan;
 use processing::{Ended, Outcome};
@@ -55,7 +55,7 @@ pub fn transact(
     out: &mut [u8],
     room: &mut [u8],
 ) -> Ended
-    requires accepts { Accepts image.now book.now a }
+    requires runnable { Runnable image.now book.now a }
     requires in_bounds { 1355 ≤ length out.old }
     requires in_bounds_2 { 65536 ≤ length room.old }
     ensures { Transacts image.now book.now log.now a out.old out.new

@@ -2,6 +2,7 @@
 use lib.ListN.{length}
 use native.Mathlib.Omega.{arith}
 use Prim.Native.Nat.{◌≤◌}
+use Rattle.transaction.proofs.Accepted.{accepted-runnable}
 use Rattle.engine.specs.Answers.{refusal_meant}
 use Rattle.engine.specs.declared.Refusal.TheVariants.{Image, Book, Cycle, Log}
 use Rattle.engine.proofs.Refused.{refused, none-there, some-there}
@@ -68,12 +69,12 @@ returns-in_err-operations c =
     rw is.1 (run-refused long roomy Log malformed)
 
 -- an accepted run
-pub transact-requires-clause-accepts : goal.transact-requires-clause-accepts
-transact-requires-clause-accepts c =
+pub transact-requires-clause-runnable : goal.transact-requires-clause-runnable
+transact-requires-clause-runnable c =
     let i = image-told c.args.image.now c.judge.ensures.told c.in_ok-head.ensures.ok_part in
     let b = told c.args.book.now c.judge-2.ensures.told c.in_ok-frame.ensures.ok_part in
     let order = some-there c.plan_of-plan.result.order c.is_none.ensures c.if-is_none.false in
-    accepts _ _ c.args.log.now _ i _ c.plan_of-plan.result b c.plan_of-plan.ensures order.1 _
+    accepted-runnable (accepts _ _ c.args.log.now _ i _ c.plan_of-plan.result b c.plan_of-plan.ensures order.1 _)
 
 pub returns : goal.returns
 returns c =
